@@ -1,0 +1,48 @@
+-- Tests and choices: what a test that passed says of its parts, and a choice by a test. Assumes nothing.
+use mathlib.Core.Path.{_≡_, refl}
+use mathlib.Core.Bool.{Bool, true, false, _&&_, _||_, cond}
+use native.Mathlib.Omega.{arith}
+use Prim.Native.Nat.{ℕ}
+use lib.Dec.{eqb}
+use borrow.Author.Tests.{eq-eqb, ne-eqb}
+
+-- both parts of a conjunction that passed
+pub both : (s t : Bool) → (s && t) ≡ true → (s ≡ true) × (t ≡ true)
+both true t e = (refl, e)
+both false t e = (e, elim t [ true ↦ refl | false ↦ e ])
+
+-- a test does not both pass and fail
+pub never-both : (t : Bool) → t ≡ true → t ≡ false → ⊥
+never-both t p q = let z : _≡_ {A = ℕ} 0 1 = cc in omega arith
+
+-- what follows from a choice's value, by the test's two outcomes
+pub by-cond : {A : Type 0} {P : Type 0} (b : Bool) (x y t : A) → (b ≡ true → x ≡ t → P) → (b ≡ false → y ≡ t → P) → cond b x y ≡ t → P
+by-cond true x y t k l h = k refl h
+by-cond false x y t k l h = l refl h
+
+-- a choice by a call's result r, of which the callee ensures what it is
+pub cond-yes : {A : Type 0} (r b : Bool) (x y t : A) → r ≡ b → r ≡ true → t ≡ x → t ≡ cond b x y
+cond-yes r b x y t e h p = rw (← e, h) p
+
+pub cond-no : {A : Type 0} (r b : Bool) (x y t : A) → r ≡ b → r ≡ false → t ≡ y → t ≡ cond b x y
+cond-no r b x y t e h p = rw (← e, h) p
+
+-- a choice by a comparison of two numbers
+pub cond-eq : {A : Type 0} (m n : ℕ) (x y t : A) → m ≡ n → t ≡ x → t ≡ cond (eqb m n) x y
+cond-eq m n x y t h p = rw (eq-eqb m n h) p
+
+pub cond-ne : {A : Type 0} (m n : ℕ) (x y t : A) → (m ≡ n → ⊥) → t ≡ y → t ≡ cond (eqb m n) x y
+cond-ne m n x y t h p = rw (ne-eqb m n h) p
+
+-- for `search`: branches on numbers
+pub ruleset by-numbers = (cond-eq, cond-ne)
+
+-- what holds of both values of a choice, each where it is taken, holds of the choice
+pub cond-holds {ℓ} : {A : Type 0} (P : A → Type ℓ) (b : Bool) (x y : A) → (b ≡ true → P x) → (b ≡ false → P y) → P (cond b x y)
+cond-holds P true x y k l = k refl
+cond-holds P false x y k l = l refl
+
+-- one part of a disjunction that passed
+pub either {ℓ} : {P : Type ℓ} (s t : Bool) → (s || t) ≡ true → (s ≡ true → P) → (t ≡ true → P) → P
+either true t e k l = k refl
+either false t e k l = l e

@@ -1,0 +1,1 @@
+// General laws that the kit lacks, in proofs/: on tests, on numbers and on lists. No word of A64 is in them, and no code.

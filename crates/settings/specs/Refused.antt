@@ -1,0 +1,10 @@
+-- Document 01, "Refusal numbers".
+use Prim.Native.Nat.{ℕ}
+use Rattle.settings.specs.declared.Refusal.{Refusal}
+use Rattle.settings.specs.declared.Refusal.the-variants.{BadSettings, UnknownWord, NoSuchWord, NoPartner}
+
+abbrev pub refusalNumber : Refusal → ℕ
+refusalNumber BadSettings = 1
+refusalNumber UnknownWord = 3
+refusalNumber NoSuchWord = 5
+refusalNumber NoPartner = 6

@@ -1,0 +1,37 @@
+-- Document 01, "Machine and settings": features and modes are sums of named numbers.
+use Prim.Native.Nat.{ℕ, _/_, _%_}
+use mathlib.Core.Bool.{Bool, _&&_}
+use lib.Dec.{leb}
+
+-- AdvSIMD 1, SVE2 2, SME 4, SME2 8, I16I64 16
+abbrev pub advSimd : ℕ
+advSimd = 1
+
+abbrev pub sve2 : ℕ
+sve2 = 2
+
+abbrev pub sme : ℕ
+sme = 4
+
+abbrev pub sme2 : ℕ
+sme2 = 8
+
+abbrev pub i16i64 : ℕ
+i16i64 = 16
+
+-- each of the five features in the sum `named` is in the sum `features`
+abbrev pub hasFeatures : ℕ → ℕ → Bool
+hasFeatures features named =
+    leb (named % 2) (features % 2) && leb (named / 2 % 2) (features / 2 % 2) && leb (named / 4 % 2) (features / 4 % 2)
+    && leb (named / 8 % 2) (features / 8 % 2) && leb (named / 16 % 2) (features / 16 % 2)
+
+-- SM 1, ZA 2
+abbrev pub sm : ℕ
+sm = 1
+
+abbrev pub za : ℕ
+za = 2
+
+-- each of the two modes in the sum `named` is in the sum `modes`
+abbrev pub hasModes : ℕ → ℕ → Bool
+hasModes modes named = leb (named % 2) (modes % 2) && leb (named / 2 % 2) (modes / 2 % 2)

@@ -1,0 +1,40 @@
+use Rattle.words.specs.Decode.{decodeEnabled}
+use borrow.Author.Needs.{needs}
+use Rattle.words.proofs.decode_enabled.Statement.{statement}
+use Rattle.words.proofs.decode_enabled.Tie as tie
+
+describe-requires : tie.Need-describe-requires
+describe-requires c κs = search needs
+
+enum-known-described : tie.Need-enum-known-described
+enum-known-described c = search needs
+
+enables-requires : tie.Need-enables-requires
+enables-requires c κs = search needs
+
+enum-told : tie.Need-enum-told
+enum-told c = search needs
+
+returns : tie.Need-returns
+unfolding decodeEnabled
+returns c = rw (← c .before .before .before .before .before .describe .ensures, c .before .before .before .described .given .1, ← c .before .enables .ensures, c .if1 .taken)
+
+returns-2 : tie.Need-returns-2
+unfolding decodeEnabled
+returns-2 c = rw (← c .before .before .before .before .before .describe .ensures, c .before .before .before .described .given .1, ← c .before .enables .ensures, c .if1 .left)
+
+returns-3 : tie.Need-returns-3
+unfolding decodeEnabled
+returns-3 c = rw (← c .before .before .describe .ensures, c .enum-told .given .1)
+
+pub decode-enabled-spec : {M : Type 1} → statement M
+decode-enabled-spec =
+    tie.close
+    (tie.spec
+    describe-requires
+    enum-known-described
+    enables-requires
+    enum-told
+    returns
+    returns-2
+    returns-3)

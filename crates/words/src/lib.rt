@@ -1,0 +1,428 @@
+ghost use mathlib.Core.Path.{_≡_};
+ghost use Prim.Native.Nat.{_+_, _*_, _/_, _%_, _^_, _<_};
+ghost use Rattle.layouts.specs.Layout.{matches, flip};
+ghost use Rattle.words.specs.Rows.{rowA, rowB, rowC16, rowC32, rowD2, rowD4, rowE2, rowE4};
+ghost use Rattle.words.specs.Says.{byElement, fieldsA16, fieldsA32, vector, fieldsC, fieldsD, fieldsE, entryA, entryB, tableZa, saysOf, saysFirst, describe as describePaper};
+ghost use Rattle.words.specs.Decode.{enables as enablesPaper, decodedSays, decodeEnabled, decodePaper};
+use settings::Features;
+use settings::Refusal;
+use settings::Settings;
+
+// The families of document 01, A to E, by what they do.
+pub enum Family {
+    // A: by element.
+    ByElement,
+    // B: vector.
+    Vector,
+    // C: doubled products that saturate.
+    Saturating,
+    // D: into four ZA vectors a source vector, four times the lane.
+    LongLong,
+    // E: into two ZA vectors a source vector, twice the lane.
+    Long,
+}
+
+// What a word says. A field that the family lacks is 0, and the group 1.
+pub struct Fields {
+    pub family: Family,
+    pub unsigned: bool,
+    pub subtract: bool,
+    // The bits of a source element.
+    pub lane: u32,
+    // Q or T.
+    pub part: u32,
+    pub index: u32,
+    pub destination: u32,
+    pub first: u32,
+    pub second: u32,
+    // Registers a source: 1, 2 or 4.
+    pub group: u32,
+    // The select register, W8 to W11.
+    pub select: u32,
+    pub offset: u32,
+}
+
+// A word's fields, whatever the features.
+pub enum Described {
+    As(Fields),
+    Nothing,
+}
+
+pub enum Decoded {
+    Word(Fields),
+    Refused(Refusal),
+}
+
+pub enum Partnered {
+    Partner(u32),
+    Refused(Refusal),
+}
+
+fn is_a(w: u32) -> bool
+    ensures { λ r. ⌜ r ≡ matches rowA w ⌝ }
+{
+    (w / 2147483648 % 2 == 0)
+        & (w / 16777216 % 32 == 0b01111)
+        & (w / 32768 % 2 == 0)
+        & (w / 4096 % 4 == 0b10)
+        & (w / 1024 % 2 == 0)
+}
+
+fn is_b(w: u32) -> bool
+    ensures { λ r. ⌜ r ≡ matches rowB w ⌝ }
+{
+    (w / 2147483648 % 2 == 0)
+        & (w / 16777216 % 32 == 0b01110)
+        & (w / 2097152 % 2 == 1)
+        & (w / 16384 % 4 == 0b10)
+        & (w / 1024 % 8 == 0b000)
+}
+
+fn is_c16(w: u32) -> bool
+    ensures { λ r. ⌜ r ≡ matches rowC16 w ⌝ }
+{
+    (w / 2097152 % 2048 == 0b01000100101) & (w / 8192 % 8 == 0b001)
+}
+
+fn is_c32(w: u32) -> bool
+    ensures { λ r. ⌜ r ≡ matches rowC32 w ⌝ }
+{
+    (w / 2097152 % 2048 == 0b01000100111) & (w / 8192 % 8 == 0b001)
+}
+
+fn is_d2(w: u32) -> bool
+    ensures { λ r. ⌜ r ≡ matches rowD2 w ⌝ }
+{
+    (w / 8388608 % 512 == 0b110000011)
+        & (w / 2097152 % 2 == 1)
+        & (w / 32768 % 4 == 0b00)
+        & (w / 1024 % 8 == 0b000)
+        & (w / 32 % 2 == 0)
+        & (w / 2 % 4 == 0b00)
+}
+
+fn is_d4(w: u32) -> bool
+    ensures { λ r. ⌜ r ≡ matches rowD4 w ⌝ }
+{
+    (w / 8388608 % 512 == 0b110000011)
+        & (w / 2097152 % 2 == 1)
+        & (w / 32768 % 8 == 0b010)
+        & (w / 1024 % 8 == 0b000)
+        & (w / 32 % 4 == 0b00)
+        & (w / 2 % 4 == 0b00)
+}
+
+fn is_e2(w: u32) -> bool
+    ensures { λ r. ⌜ r ≡ matches rowE2 w ⌝ }
+{
+    (w / 2097152 % 2048 == 0b11000001111)
+        & (w / 32768 % 4 == 0b00)
+        & (w / 1024 % 8 == 0b010)
+        & (w / 32 % 2 == 0)
+        & (w / 4 % 2 == 0)
+}
+
+fn is_e4(w: u32) -> bool
+    ensures { λ r. ⌜ r ≡ matches rowE4 w ⌝ }
+{
+    (w / 2097152 % 2048 == 0b11000001111)
+        & (w / 32768 % 8 == 0b010)
+        & (w / 1024 % 8 == 0b010)
+        & (w / 32 % 4 == 0b00)
+        & (w / 4 % 2 == 0)
+}
+
+fn by_element(w: u32, lane: u32, index: u32, second: u32) -> Fields
+    ensures { λ r. ⌜ r ≡ byElement w lane index second ⌝ }
+{
+    Fields {
+        family: Family::ByElement,
+        unsigned: w / 536870912 % 2 == 1,
+        subtract: w / 16384 % 2 == 1,
+        lane: lane,
+        part: w / 1073741824 % 2,
+        index: index,
+        destination: w % 32,
+        first: w / 32 % 32,
+        second: second,
+        group: 1,
+        select: 0,
+        offset: 0,
+    }
+}
+
+fn fields_a16(w: u32) -> Fields
+    ensures { λ r. ⌜ r ≡ fieldsA16 w ⌝ }
+{
+    by_element(
+        w,
+        16,
+        w / 2048 % 2 * 4 + w / 2097152 % 2 * 2 + w / 1048576 % 2,
+        w / 65536 % 16,
+    )
+}
+
+fn fields_a32(w: u32) -> Fields
+    ensures { λ r. ⌜ r ≡ fieldsA32 w ⌝ }
+{
+    by_element(
+        w,
+        32,
+        w / 2048 % 2 * 2 + w / 2097152 % 2,
+        w / 1048576 % 2 * 16 + w / 65536 % 16,
+    )
+}
+
+// A word of family A. Sizes 00 and 11 are reserved.
+fn says_a(w: u32) -> Described
+    ensures { λ r. ⌜ r ≡ saysOf entryA w ⌝ }
+{
+    let size = w / 4194304 % 4;
+    if size == 0b01 {
+        return Described::As(fields_a16(w));
+    }
+    if size == 0b10 {
+        return Described::As(fields_a32(w));
+    }
+    Described::Nothing
+}
+
+fn lane_b(size: u32) -> u32
+    requires { ⌜ size < 3 ⌝ }
+    ensures { λ r. ⌜ r ≡ 8 * 2 ^ size ⌝ }
+{
+    if size == 0 {
+        8
+    } else if size == 1 {
+        16
+    } else {
+        32
+    }
+}
+
+fn vector_fields(w: u32, lane: u32) -> Fields
+    ensures { λ r. ⌜ r ≡ vector w lane ⌝ }
+{
+    Fields {
+        family: Family::Vector,
+        unsigned: w / 536870912 % 2 == 1,
+        subtract: w / 8192 % 2 == 1,
+        lane: lane,
+        part: w / 1073741824 % 2,
+        index: 0,
+        destination: w % 32,
+        first: w / 32 % 32,
+        second: w / 65536 % 32,
+        group: 1,
+        select: 0,
+        offset: 0,
+    }
+}
+
+// A word of family B. Size 11 is reserved.
+fn says_b(w: u32) -> Described
+    ensures { λ r. ⌜ r ≡ saysOf entryB w ⌝ }
+{
+    let size = w / 4194304 % 4;
+    if size == 0b11 {
+        return Described::Nothing;
+    }
+    Described::As(vector_fields(w, lane_b(size)))
+}
+
+fn fields_c16(w: u32) -> Fields
+    ensures { λ r. ⌜ r ≡ fieldsC rowC16 16 w ⌝ }
+{
+    Fields {
+        family: Family::Saturating,
+        unsigned: false,
+        subtract: w / 4096 % 2 == 1,
+        lane: 16,
+        part: w / 1024 % 2,
+        index: w / 524288 % 4 * 2 + w / 2048 % 2,
+        destination: w % 32,
+        first: w / 32 % 32,
+        second: w / 65536 % 8,
+        group: 1,
+        select: 0,
+        offset: 0,
+    }
+}
+
+fn fields_c32(w: u32) -> Fields
+    ensures { λ r. ⌜ r ≡ fieldsC rowC32 32 w ⌝ }
+{
+    Fields {
+        family: Family::Saturating,
+        unsigned: false,
+        subtract: w / 4096 % 2 == 1,
+        lane: 32,
+        part: w / 1024 % 2,
+        index: w / 1048576 % 2 * 2 + w / 2048 % 2,
+        destination: w % 32,
+        first: w / 32 % 32,
+        second: w / 65536 % 16,
+        group: 1,
+        select: 0,
+        offset: 0,
+    }
+}
+
+fn fields_d2(w: u32) -> Fields
+    ensures { λ r. ⌜ r ≡ fieldsD rowD2 2 w ⌝ }
+{
+    Fields {
+        family: Family::LongLong,
+        unsigned: w / 16 % 2 == 1,
+        subtract: w / 8 % 2 == 1,
+        lane: 8 + 8 * (w / 4194304 % 2),
+        part: 0,
+        index: 0,
+        destination: 0,
+        first: w / 64 % 16 * 2,
+        second: w / 131072 % 16 * 2,
+        group: 2,
+        select: 8 + w / 8192 % 4,
+        offset: 4 * (w % 2),
+    }
+}
+
+fn fields_d4(w: u32) -> Fields
+    ensures { λ r. ⌜ r ≡ fieldsD rowD4 4 w ⌝ }
+{
+    Fields {
+        family: Family::LongLong,
+        unsigned: w / 16 % 2 == 1,
+        subtract: w / 8 % 2 == 1,
+        lane: 8 + 8 * (w / 4194304 % 2),
+        part: 0,
+        index: 0,
+        destination: 0,
+        first: w / 128 % 8 * 4,
+        second: w / 262144 % 8 * 4,
+        group: 4,
+        select: 8 + w / 8192 % 4,
+        offset: 4 * (w % 2),
+    }
+}
+
+fn fields_e2(w: u32) -> Fields
+    ensures { λ r. ⌜ r ≡ fieldsE rowE2 2 w ⌝ }
+{
+    Fields {
+        family: Family::Long,
+        unsigned: w / 16 % 2 == 1,
+        subtract: w / 8 % 2 == 1,
+        lane: 16,
+        part: 0,
+        index: 0,
+        destination: 0,
+        first: w / 64 % 16 * 2,
+        second: w / 131072 % 16 * 2,
+        group: 2,
+        select: 8 + w / 8192 % 4,
+        offset: 2 * (w % 4),
+    }
+}
+
+fn fields_e4(w: u32) -> Fields
+    ensures { λ r. ⌜ r ≡ fieldsE rowE4 4 w ⌝ }
+{
+    Fields {
+        family: Family::Long,
+        unsigned: w / 16 % 2 == 1,
+        subtract: w / 8 % 2 == 1,
+        lane: 16,
+        part: 0,
+        index: 0,
+        destination: 0,
+        first: w / 128 % 8 * 4,
+        second: w / 262144 % 8 * 4,
+        group: 4,
+        select: 8 + w / 8192 % 4,
+        offset: 2 * (w % 4),
+    }
+}
+
+// A word of families D and E.
+fn says_za(w: u32) -> Described
+    ensures { λ r. ⌜ r ≡ saysFirst tableZa w ⌝ }
+{
+    if is_d2(w) {
+        return Described::As(fields_d2(w));
+    }
+    if is_d4(w) {
+        return Described::As(fields_d4(w));
+    }
+    if is_e2(w) {
+        return Described::As(fields_e2(w));
+    }
+    if is_e4(w) {
+        return Described::As(fields_e4(w));
+    }
+    Described::Nothing
+}
+
+// The fields of a word, whatever the features.
+pub fn describe(w: u32) -> Described
+    ensures { λ r. ⌜ r ≡ describePaper w ⌝ }
+{
+    if is_a(w) {
+        return says_a(w);
+    }
+    if is_b(w) {
+        return says_b(w);
+    }
+    if is_c16(w) {
+        return Described::As(fields_c16(w));
+    }
+    if is_c32(w) {
+        return Described::As(fields_c32(w));
+    }
+    says_za(w)
+}
+
+// Whether the features enable a word of these fields.
+pub fn enables(features: Features, f: Fields) -> bool
+    ensures { λ r. ⌜ r ≡ enablesPaper (features .0) f ⌝ }
+{
+    let family = f.family;
+    match family {
+        Family::ByElement => features.contains(Features::ADV_SIMD),
+        Family::Vector => features.contains(Features::ADV_SIMD),
+        Family::Saturating => features.contains(Features::SVE2) | features.contains(Features::SME),
+        Family::LongLong => {
+            features.contains(Features::SME2)
+                & ((f.lane == 8) | features.contains(Features::I16I64))
+        }
+        Family::Long => features.contains(Features::SME2),
+    }
+}
+
+// The fields of a word under features alone: for callers that have tested the settings.
+pub fn decode_enabled(features: Features, word: u32) -> Decoded
+    ensures { λ r. ⌜ decodedSays r ≡ decodeEnabled (features .0) word ⌝ }
+{
+    let described = describe(word);
+    match described {
+        Described::As(f) => {
+            if enables(features, f) {
+                Decoded::Word(f)
+            } else {
+                Decoded::Refused(Refusal::UnknownWord)
+            }
+        }
+        Described::Nothing => Decoded::Refused(Refusal::UnknownWord),
+    }
+}
+
+// The fields of a word. Refusals 1, 3.
+pub fn decode(settings: Settings, word: u32) -> Decoded
+    ensures { λ r. ⌜ decodedSays r ≡ decodePaper settings word ⌝ }
+{
+    if settings.valid() {
+        let features = settings.features;
+        return decode_enabled(features, word);
+    }
+    Decoded::Refused(Refusal::BadSettings)
+}
