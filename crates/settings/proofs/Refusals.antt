@@ -1,0 +1,28 @@
+-- A refusal is known by its number, and no refusal's number is 0. Assumes nothing.
+use Prim.Native.Nat.{ℕ, _<_}
+use mathlib.Core.Path.{_≡_, refl, sym, ap, _∙_}
+use mathlib.Core.Bool.{cond}
+use native.Mathlib.Omega.{arith}
+use lib.Dec.{eqb}
+use Rattle.settings.specs.Refused.{refusalNumber}
+use Rattle.settings.specs.declared.Refusal.{Refusal}
+use Rattle.settings.specs.declared.Refusal.the-variants.{BadSettings, UnknownWord, NoSuchWord, NoPartner}
+
+numbered : ℕ → Refusal
+numbered n = cond (eqb n 1) BadSettings (cond (eqb n 3) UnknownWord (cond (eqb n 5) NoSuchWord NoPartner))
+
+numbered-back : (r : Refusal) → numbered (refusalNumber r) ≡ r
+unfolding numbered
+numbered-back BadSettings = refl
+numbered-back UnknownWord = refl
+numbered-back NoSuchWord = refl
+numbered-back NoPartner = refl
+
+pub refusal-known : (r q : Refusal) → refusalNumber r ≡ refusalNumber q → r ≡ q
+refusal-known r q e = sym (numbered-back r) ∙ ap numbered e ∙ numbered-back q
+
+pub refusal-not-0 : (r : Refusal) → 0 < refusalNumber r
+refusal-not-0 BadSettings = omega arith
+refusal-not-0 UnknownWord = omega arith
+refusal-not-0 NoSuchWord = omega arith
+refusal-not-0 NoPartner = omega arith
