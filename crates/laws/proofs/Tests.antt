@@ -15,6 +15,11 @@ both false t e = (e, elim t [ true ↦ refl | false ↦ e ])
 pub never-both : (t : Bool) → t ≡ true → t ≡ false → ⊥
 never-both t p q = let z : _≡_ {A = ℕ} 0 1 = cc in omega arith
 
+-- a test that cannot pass fails
+pub failed : (t : Bool) → (t ≡ true → ⊥) → t ≡ false
+failed true k = absurd (k refl)
+failed false k = refl
+
 -- what follows from a choice's value, by the test's two outcomes
 pub by-cond : {A : Type 0} {P : Type 0} (b : Bool) (x y t : A) → (b ≡ true → x ≡ t → P) → (b ≡ false → y ≡ t → P) → cond b x y ≡ t → P
 by-cond true x y t k l h = k refl h

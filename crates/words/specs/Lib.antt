@@ -1,3 +1,4 @@
 pub mod Rows
 pub mod Says
 pub mod Decode
+pub mod Partner

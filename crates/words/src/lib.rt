@@ -4,6 +4,7 @@ ghost use Rattle.layouts.specs.Layout.{matches, flip};
 ghost use Rattle.words.specs.Rows.{rowA, rowB, rowC16, rowC32, rowD2, rowD4, rowE2, rowE4};
 ghost use Rattle.words.specs.Says.{byElement, fieldsA16, fieldsA32, vector, fieldsC, fieldsD, fieldsE, entryA, entryB, tableZa, saysOf, saysFirst, describe as describePaper};
 ghost use Rattle.words.specs.Decode.{enables as enablesPaper, decodedSays, decodeEnabled, decodePaper};
+ghost use Rattle.words.specs.Partner.{partnerIn, partneredSays, partnerPaper};
 use settings::Features;
 use settings::Refusal;
 use settings::Settings;
@@ -54,7 +55,7 @@ pub enum Decoded {
 }
 
 pub enum Partnered {
-    Partner(u32),
+    Word(u32),
     Refused(Refusal),
 }
 
@@ -425,4 +426,31 @@ pub fn decode(settings: Settings, word: u32) -> Decoded
         return decode_enabled(features, word);
     }
     Decoded::Refused(Refusal::BadSettings)
+}
+
+// The partner of a word of the family: S stands at one bit in all layouts of a family.
+fn partner_in(family: Family, word: u32) -> Partnered
+    ensures { λ r. ⌜ partneredSays r ≡ partnerIn family word ⌝ }
+{
+    match family {
+        Family::ByElement => Partnered::Word(word ^ 16384),
+        Family::Vector => Partnered::Word(word ^ 8192),
+        Family::Saturating => Partnered::Refused(Refusal::NoPartner),
+        Family::LongLong => Partnered::Word(word ^ 8),
+        Family::Long => Partnered::Word(word ^ 8),
+    }
+}
+
+// The word with S flipped. Refusals 1, 3, 6.
+pub fn partner(settings: Settings, word: u32) -> Partnered
+    ensures { λ r. ⌜ partneredSays r ≡ partnerPaper settings word ⌝ }
+{
+    let decoded = decode(settings, word);
+    match decoded {
+        Decoded::Word(f) => {
+            let family = f.family;
+            partner_in(family, word)
+        }
+        Decoded::Refused(r) => Partnered::Refused(r),
+    }
 }

@@ -13,9 +13,10 @@ says-a-requires c κs = search needs
 
 returns : tie.Need-returns
 unfolding describe
-returns c = rw
-    (← c .before .before .is-a .ensures,
-    c .before .if1 .taken)
+returns c = rw (
+  ← c .before .before .is-a .ensures,
+  c .before .if1 .taken,
+)
     (c .says-a .ensures)
 
 is-b-requires : tie.Need-is-b-requires
@@ -26,11 +27,12 @@ says-b-requires c κs = search needs
 
 returns-2 : tie.Need-returns-2
 unfolding describe
-returns-2 c = rw
-    (← c .before .before .before .before .is-a .ensures,
-    c .before .before .before .if1 .left,
-    ← c .before .before .is-b .ensures,
-    c .before .if2 .taken)
+returns-2 c = rw (
+  ← c .before .before .before .before .is-a .ensures,
+  c .before .before .before .if1 .left,
+  ← c .before .before .is-b .ensures,
+  c .before .if2 .taken,
+)
     (c .says-b .ensures)
 
 is-c16-requires : tie.Need-is-c16-requires
@@ -41,13 +43,14 @@ fields-c16-requires c κs = search needs
 
 returns-3 : tie.Need-returns-3
 unfolding describe
-returns-3 c = rw
-    (← c .before .before .before .before .before .before .is-a .ensures,
-    c .before .before .before .before .before .if1 .left,
-    ← c .before .before .before .before .is-b .ensures,
-    c .before .before .before .if2 .left,
-    ← c .before .before .is-c16 .ensures,
-    c .before .if3 .taken)
+returns-3 c = rw (
+  ← c .before .before .before .before .before .before .is-a .ensures,
+  c .before .before .before .before .before .if1 .left,
+  ← c .before .before .before .before .is-b .ensures,
+  c .before .before .before .if2 .left,
+  ← c .before .before .is-c16 .ensures,
+  c .before .if3 .taken,
+)
     (ap As (c .fields-c16 .ensures))
 
 is-c32-requires : tie.Need-is-c32-requires
@@ -58,15 +61,16 @@ fields-c32-requires c κs = search needs
 
 returns-4 : tie.Need-returns-4
 unfolding describe
-returns-4 c = rw
-    (← c .before .before .before .before .before .before .before .before .is-a .ensures,
-    c .before .before .before .before .before .before .before .if1 .left,
-    ← c .before .before .before .before .before .before .is-b .ensures,
-    c .before .before .before .before .before .if2 .left,
-    ← c .before .before .before .before .is-c16 .ensures,
-    c .before .before .before .if3 .left,
-    ← c .before .before .is-c32 .ensures,
-    c .before .if4 .taken)
+returns-4 c = rw (
+  ← c .before .before .before .before .before .before .before .before .is-a .ensures,
+  c .before .before .before .before .before .before .before .if1 .left,
+  ← c .before .before .before .before .before .before .is-b .ensures,
+  c .before .before .before .before .before .if2 .left,
+  ← c .before .before .before .before .is-c16 .ensures,
+  c .before .before .before .if3 .left,
+  ← c .before .before .is-c32 .ensures,
+  c .before .if4 .taken,
+)
     (ap As (c .fields-c32 .ensures))
 
 says-za-requires : tie.Need-says-za-requires
@@ -74,15 +78,16 @@ says-za-requires c κs = search needs
 
 returns-5 : tie.Need-returns-5
 unfolding describe
-returns-5 c = rw
-    (← c .before .before .before .before .before .before .before .before .is-a .ensures,
-    c .before .before .before .before .before .before .before .if1 .left,
-    ← c .before .before .before .before .before .before .is-b .ensures,
-    c .before .before .before .before .before .if2 .left,
-    ← c .before .before .before .before .is-c16 .ensures,
-    c .before .before .before .if3 .left,
-    ← c .before .before .is-c32 .ensures,
-    c .before .if4 .left)
+returns-5 c = rw (
+  ← c .before .before .before .before .before .before .before .before .is-a .ensures,
+  c .before .before .before .before .before .before .before .if1 .left,
+  ← c .before .before .before .before .before .before .is-b .ensures,
+  c .before .before .before .before .before .if2 .left,
+  ← c .before .before .before .before .is-c16 .ensures,
+  c .before .before .before .if3 .left,
+  ← c .before .before .is-c32 .ensures,
+  c .before .if4 .left,
+)
     (c .says-za .ensures)
 
 pub describe-spec : {M : Type 1} → statement M

@@ -1,0 +1,115 @@
+-- What the promises of decode and partner determine, and what callers take from them. Assumes nothing.
+use Prim.Native.Nat.{ℕ, _<_, _^_}
+use native.Mathlib.Omega.{arith}
+use mathlib.Core.Path.{_≡_, refl, sym, ap, _∙_, subst}
+use mathlib.Core.Logic.{_↔_}
+use mathlib.Core.Bool.{Bool, true, false, cond}
+use lib.Bits.{bitXor, xor-lt}
+use lib.Dec.{eqb}
+use borrow.Author.Tests.{ne-eqb}
+use Rattle.laws.proofs.Tests.{by-cond}
+use Rattle.settings.specs.Valid.{validSettings}
+use Rattle.settings.specs.Refused.{refusalNumber}
+use Rattle.settings.specs.declared.Settings.{Settings}
+use Rattle.settings.specs.declared.Refusal.{Refusal}
+use Rattle.settings.proofs.Refusals.{refusal-known, refusal-not-0}
+use Rattle.words.specs.Says.{describe}
+use Rattle.words.specs.Decode.{enables, noFields, decodedSays, enabledOnly, decodeEnabled, decodePaper}
+use Rattle.words.specs.Partner.{partnerWord, turned, signOf, isC, partneredSays, partnerAfter, partnerPaper, partnerIn}
+use Rattle.words.specs.declared.Family.{Family}
+use Rattle.words.specs.declared.Family.the-variants.{ByElement, Vector, Saturating, LongLong, Long}
+use Rattle.words.specs.declared.Fields.{Fields}
+use Rattle.words.specs.declared.Described.{Described}
+use Rattle.words.specs.declared.Described.the-variants.{As, Nothing}
+use Rattle.words.specs.declared.Decoded.{Decoded}
+use Rattle.words.specs.declared.Decoded.the-variants.{Word, Refused}
+use Rattle.words.specs.declared.Partnered as partnered
+use Rattle.words.specs.declared.Partnered.the-variants.{Word as Partner, Refused as NotPartnered}
+use Rattle.words.proofs.Partners.{partner-turned, partner-back, partner-sign}
+
+-- ---- each answer is determined by its promise
+
+said-0 : {A : Type 0} (r : Refusal) (x y : A) → _≡_ {A = ℕ × A} (refusalNumber r, x) (0, y) → ⊥
+said-0 r x y e = let n : refusalNumber r ≡ 0 = ap (λ (p : ℕ × _). p .0) e in omega (arith, refusal-not-0 r)
+
+pub decoded-known : (r q : Decoded) → decodedSays r ≡ decodedSays q → r ≡ q
+decoded-known (Word f) (Word g) e = ap Word (ap (λ (p : ℕ × Fields). p .1) e)
+decoded-known (Word f) (Refused q) e = absurd (said-0 q noFields f (sym e))
+decoded-known (Refused r) (Word g) e = absurd (said-0 r noFields g e)
+decoded-known (Refused r) (Refused q) e = ap Refused (refusal-known r q (ap (λ (p : ℕ × Fields). p .0) e))
+
+-- any two answers that decode's promise allows are equal
+pub decode-unique : (s : Settings) (w : ℕ) (r q : Decoded) → decodedSays r ≡ decodePaper s w → decodedSays q ≡ decodePaper s w → r ≡ q
+decode-unique s w r q e g = decoded-known r q (e ∙ sym g)
+
+pub partnered-known : (r q : partnered.Partnered) → partneredSays r ≡ partneredSays q → r ≡ q
+partnered-known (Partner v) (Partner w) e = ap Partner (ap (λ (p : ℕ × ℕ). p .1) e)
+partnered-known (Partner v) (NotPartnered q) e = absurd (said-0 q 0 v (sym e))
+partnered-known (NotPartnered r) (Partner w) e = absurd (said-0 r 0 w e)
+partnered-known (NotPartnered r) (NotPartnered q) e = ap NotPartnered (refusal-known r q (ap (λ (p : ℕ × ℕ). p .0) e))
+
+-- any two answers that partner's promise allows are equal
+pub partner-unique : (s : Settings) (w : ℕ) (r q : partnered.Partnered) → partneredSays r ≡ partnerPaper s w → partneredSays q ≡ partnerPaper s w → r ≡ q
+partner-unique s w r q e g = partnered-known r q (e ∙ sym g)
+
+-- ---- an accepted word
+
+-- decode accepts w with the fields f: the settings are valid, w is described so, and the features enable it
+pub record Accepted (s : Settings) (w : ℕ) (f : Fields) : Type 0 where
+  pub valid : validSettings s ≡ true
+  pub says : describe w ≡ As f
+  pub enabled : enables (s .features .0) f ≡ true
+
+enabled-says : (features : ℕ) (d : Described) (f : Fields) → enabledOnly features d ≡ (0, f) → (d ≡ As f) × (enables features f ≡ true)
+enabled-says features (As g) f =
+    by-cond (enables features g) (0, g) (3, noFields) (0, f)
+    (λ t e. let h : g ≡ f = ap (λ (p : ℕ × Fields). p .1) e in (ap As h, subst (λ (x : Fields). enables features x ≡ true) h t))
+    (λ _ e. let z : _≡_ {A = ℕ} 3 0 = ap (λ (p : ℕ × Fields). p .0) e in absurd (omega arith))
+enabled-says features Nothing f = λ e. let z : _≡_ {A = ℕ} 3 0 = ap (λ (p : ℕ × Fields). p .0) e in absurd (omega arith)
+
+decode-accepted : (s : Settings) (w : ℕ) (f : Fields) → decodePaper s w ≡ (0, f) → Accepted s w f
+unfolding decodePaper decodeEnabled
+decode-accepted s w f =
+    by-cond (validSettings s) (enabledOnly (s .features .0) (describe w)) (1, noFields) (0, f)
+    (λ v e. let a = enabled-says (s .features .0) (describe w) f e in record { valid = v; says = a .0; enabled = a .1 })
+    (λ _ e. let z : _≡_ {A = ℕ} 1 0 = ap (λ (p : ℕ × Fields). p .0) e in absurd (omega arith))
+
+accepted-decode : (s : Settings) (w : ℕ) (f : Fields) → Accepted s w f → decodePaper s w ≡ (0, f)
+unfolding decodePaper decodeEnabled
+accepted-decode s w f a = rw (a .valid, a .says, a .enabled)
+
+-- under valid settings a word decodes exactly when it is described and the features enable it
+pub decodes-exactly : (s : Settings) (w : ℕ) (f : Fields) → (decodePaper s w ≡ (0, f)) ↔ Accepted s w f
+decodes-exactly s w f = (decode-accepted s w f, accepted-decode s w f)
+
+-- ---- its partner
+
+-- what the code of partner answers after decode has accepted
+pub partner-is : (s : Settings) (w : ℕ) (f : Fields) → decodePaper s w ≡ (0, f) → partnerPaper s w ≡ partnerIn (f .family) w
+unfolding partnerPaper
+partner-is s w f e =
+    let a = decode-accepted s w f e in
+    rw (e, partner-sign w f (a .says))
+
+-- and after decode has refused
+pub partner-refused : (s : Settings) (w n : ℕ) → decodePaper s w ≡ (n, noFields) → 0 < n → partnerPaper s w ≡ (n, 0)
+unfolding partnerPaper
+partner-refused s w n e h = rw (e, ne-eqb n 0 (λ z. omega arith))
+
+-- flipping `subtract` asks for no other feature
+enables-turned : (features : ℕ) (f : Fields) → enables features (turned f) ≡ enables features f
+unfolding enables turned
+enables-turned features f = refl
+
+-- where partner answers v, v is accepted: it says the same but for `subtract`, and its partner is w
+pub record PartnerOf (s : Settings) (w v : ℕ) (f : Fields) : Type 0 where
+  pub decodes : decodePaper s v ≡ (0, turned f)
+  pub back : partnerPaper s v ≡ (0, w)
+
+pub partner-accepted : (s : Settings) (w : ℕ) (f : Fields) → decodePaper s w ≡ (0, f) → isC (f .family) ≡ false
+    → (partnerPaper s w ≡ (0, partnerWord w)) × PartnerOf s w (partnerWord w) f
+unfolding partnerPaper turned
+partner-accepted s w f e c =
+    let a = decode-accepted s w f e in
+    let d : decodePaper s (partnerWord w) ≡ (0, turned f) = accepted-decode s (partnerWord w) (turned f) (record { valid = a .valid; says = partner-turned w f (a .says); enabled = enables-turned (s .features .0) f ∙ a .enabled }) in
+    (rw (e, c), record { decodes = d; back = rw (d, c, partner-back w f (a .says)) })

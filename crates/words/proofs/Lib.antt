@@ -1,0 +1,4 @@
+pub mod Table
+pub mod Turned
+pub mod Partners
+pub mod Answers

@@ -1,0 +1,100 @@
+-- The table of layouts: no word matches two rows, and a word is described exactly when a row matches and its size is not reserved.
+-- Assumes nothing.
+use Prim.Native.Nat.{ℕ}
+use native.Mathlib.Omega.{arith}
+use mathlib.Core.Path.{_≡_, refl, sym, ap, _∙_, subst}
+use mathlib.Core.List.{List, [], _∷_, map, List·Memᴰ, List·Memᴰ·head, List·Memᴰ·tail, List·Memᴰ·not-nil, List·Memᴰ·cases-cons}
+use mathlib.Core.Logic.{⊎-elim, _↔_}
+use mathlib.Core.Bool.{Bool, true, false, _&&_, cond}
+use Rattle.laws.proofs.Tests.{both, failed, by-cond}
+use Rattle.layouts.specs.Layout.{Layout, matches}
+use Rattle.layouts.proofs.Apart.{apart, apartFrom, allApart, no-word-in-both}
+use Rattle.words.specs.Says.{Row, table, saysOf, saysFirst, describe}
+use Rattle.words.specs.declared.Fields.{Fields}
+use Rattle.words.specs.declared.Described.{Described}
+use Rattle.words.specs.declared.Described.the-variants.{As, Nothing}
+
+abbrev pub layouts : List Row → List Layout
+layouts [] = []
+layouts (r ∷ rs) = r .layout ∷ layouts rs
+
+-- the whole of it: each two layouts of the table fix some bit differently
+pub table-apart : allApart (layouts table) ≡ true
+table-apart = refl
+
+-- a row apart from others shares no word with any of them
+pub apart-from : (r q : Row) (rs : List Row) (w : ℕ) → apartFrom (r .layout) (layouts rs) ≡ true → List·Memᴰ q rs → matches (r .layout) w ≡ true → matches (q .layout) w ≡ true → ⊥
+apart-from r q [] w a m p h = List·Memᴰ·not-nil m
+apart-from r q (x ∷ rs) w a m p h =
+    let b = both (apart (r .layout) (x .layout) 32) (apartFrom (r .layout) (layouts rs)) a in
+    ⊎-elim
+    (λ e. no-word-in-both (r .layout) (x .layout) 32 w (b .0) p (subst (λ (y : Row). matches (y .layout) w ≡ true) e h))
+    (λ n. apart-from r q rs w (b .1) n p h)
+    (List·Memᴰ·cases-cons m)
+
+one-of : (rs : List Row) → allApart (layouts rs) ≡ true → (r q : Row) (w : ℕ) → List·Memᴰ r rs → List·Memᴰ q rs → matches (r .layout) w ≡ true → matches (q .layout) w ≡ true → r ≡ q
+one-of [] a r q w m n p h = absurd (List·Memᴰ·not-nil m)
+one-of (x ∷ rs) a r q w m n p h =
+    let b = both (apartFrom (x .layout) (layouts rs)) (allApart (layouts rs)) a in
+    ⊎-elim
+    (λ (e : r ≡ x). ⊎-elim
+    (λ (g : q ≡ x). e ∙ sym g)
+    (λ (g : List·Memᴰ q rs). absurd (apart-from x q rs w (b .0) g (subst (λ (y : Row). matches (y .layout) w ≡ true) e p) h))
+    (List·Memᴰ·cases-cons n))
+    (λ (e : List·Memᴰ r rs). ⊎-elim
+    (λ (g : q ≡ x). absurd (apart-from x r rs w (b .0) e (subst (λ (y : Row). matches (y .layout) w ≡ true) g h) p))
+    (λ (g : List·Memᴰ q rs). one-of rs (b .1) r q w e g p h)
+    (List·Memᴰ·cases-cons n))
+    (List·Memᴰ·cases-cons m)
+
+-- no word matches two rows
+pub one-row : (r q : Row) (w : ℕ) → List·Memᴰ r table → List·Memᴰ q table → matches (r .layout) w ≡ true → matches (q .layout) w ≡ true → r ≡ q
+one-row = one-of table table-apart
+
+-- a row of the list matches the word, its size is not reserved, and the row says f
+pub record SaidBy (rs : List Row) (w : ℕ) (f : Fields) : Type 0 where
+  pub row : Row
+  pub listed : List·Memᴰ row rs
+  pub matching : matches (row .layout) w ≡ true
+  pub open-size : row .reserved w ≡ false
+  pub fields : row .fields w ≡ f
+
+pub found : (g f : Fields) → As g ≡ As f → g ≡ f
+found g f e = cc
+
+pub never : (f : Fields) → Nothing ≡ As f → ⊥
+never f e = let z : _≡_ {A = ℕ} 0 1 = cc in omega arith
+
+first-said : (rs : List Row) (w : ℕ) (f : Fields) → saysFirst rs w ≡ As f → SaidBy rs w f
+first-said [] w f = λ e. absurd (never f e)
+first-said (r ∷ rs) w f =
+    by-cond (matches (r .layout) w) (saysOf r w) (saysFirst rs w) (As f)
+    (λ m. by-cond (r .reserved w) Nothing (As (r .fields w)) (As f)
+    (λ _ e. absurd (never f e))
+    (λ o e. record { row = r; listed = List·Memᴰ·head refl; matching = m; open-size = o; fields = found (r .fields w) f e }))
+    (λ _ e.
+    let s = first-said rs w f e in
+    record { row = s .row; listed = List·Memᴰ·tail (s .listed); matching = s .matching; open-size = s .open-size; fields = s .fields })
+
+not-matching : (r : Row) (w : ℕ) → (matches (r .layout) w ≡ true → ⊥) → matches (r .layout) w ≡ false
+not-matching r w k = failed (matches (r .layout) w) k
+
+said-first : (rs : List Row) → allApart (layouts rs) ≡ true → (w : ℕ) (f : Fields) → SaidBy rs w f → saysFirst rs w ≡ As f
+said-first [] a w f s = absurd (List·Memᴰ·not-nil (s .listed))
+said-first (r ∷ rs) a w f s =
+    let b = both (apartFrom (r .layout) (layouts rs)) (allApart (layouts rs)) a in
+    ⊎-elim
+    (λ (e : s .row ≡ r).
+    let m : matches (r .layout) w ≡ true = subst (λ (y : Row). matches (y .layout) w ≡ true) e (s .matching) in
+    let o : r .reserved w ≡ false = subst (λ (y : Row). y .reserved w ≡ false) e (s .open-size) in
+    let g : r .fields w ≡ f = subst (λ (y : Row). y .fields w ≡ f) e (s .fields) in
+    rw (m, o) (ap As g))
+    (λ (n : List·Memᴰ (s .row) rs).
+    let m : matches (r .layout) w ≡ false = not-matching r w (λ p. apart-from r (s .row) rs w (b .0) n p (s .matching)) in
+    rw m (said-first rs (b .1) w f (record { row = s .row; listed = n; matching = s .matching; open-size = s .open-size; fields = s .fields })))
+    (List·Memᴰ·cases-cons (s .listed))
+
+-- a word is described exactly when a row matches and its size is not reserved
+pub described-exactly : (w : ℕ) (f : Fields) → (describe w ≡ As f) ↔ SaidBy table w f
+unfolding describe
+described-exactly w f = (first-said table w f, said-first table table-apart w f)
