@@ -43,19 +43,22 @@ table =
     record {
       name = "P5";
       given = word 0x2F726820 1;
-      answer = fields (record { family = ByElement; unsigned = true; subtract = true; lane = 16; part = 0; index = 7; destination = 0; first = 1; second = 2; group = 1; select = 0; offset = 0 }) }
+      answer = fields (record { family = ByElement; unsigned = true; subtract = true; lane = 16; part = 0; index = 7; destination = 0; first = 1; second = 2; group = 1; select = 0; offset = 0 });
+    }
     ∷ record { name = "P6"; given = word 0x2F026020 1; answer = refused 3 }
     ∷ record { name = "P6"; given = word 0x2FC26020 1; answer = refused 3 }
     ∷ record { name = "P7"; given = word 0x0EE28020 1; answer = refused 3 }
     ∷ record {
       name = "P8";
       given = word 0x44BA3820 2;
-      answer = fields (record { family = Saturating; unsigned = false; subtract = true; lane = 16; part = 0; index = 7; destination = 0; first = 1; second = 2; group = 1; select = 0; offset = 0 }) }
+      answer = fields (record { family = Saturating; unsigned = false; subtract = true; lane = 16; part = 0; index = 7; destination = 0; first = 1; second = 2; group = 1; select = 0; offset = 0 });
+    }
     ∷ record { name = "P11"; given = word 0xC1E20008 12; answer = refused 3 }
     ∷ record {
       name = "P11, then";
       given = word 0xC1E20008 28;
-      answer = fields (record { family = LongLong; unsigned = false; subtract = true; lane = 16; part = 0; index = 0; destination = 0; first = 0; second = 2; group = 2; select = 8; offset = 0 }) }
+      answer = fields (record { family = LongLong; unsigned = false; subtract = true; lane = 16; part = 0; index = 0; destination = 0; first = 0; second = 2; group = 2; select = 8; offset = 0 });
+    }
     ∷ []
 
 -- the one statement: the definitions answer each row as the table does

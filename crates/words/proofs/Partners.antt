@@ -41,7 +41,8 @@ here r rs w f t m o e =
       matching = n;
       says = rw (n, p) (ap As (t .fields-turned w ∙ ap turned e));
       back = rw n (xor-twice w (maskOf (r .layout) (code "S")));
-      sign = ap (bitXor w) (t .sign w ∙ ap (λ (g : Fields). signOf (g .family)) e) }
+      sign = ap (bitXor w) (t .sign w ∙ ap (λ (g : Fields). signOf (g .family)) e);
+    }
 
 later : (r : Row) (rs : List Row) (w v : ℕ) (f : Fields) → apartFrom (r .layout) (layouts rs) ≡ true → Partners rs w v f → Partners (r ∷ rs) w v f
 later r rs w v f a p =
@@ -52,7 +53,8 @@ later r rs w v f a p =
       matching = p .matching;
       says = rw m (p .says);
       back = rw m (p .back);
-      sign = p .sign }
+      sign = p .sign;
+    }
 
 partners : (rs : List Row) → AllTurn rs → allApart (layouts rs) ≡ true → (w : ℕ) (f : Fields) → saysFirst rs w ≡ As f → Partners rs w (flipFirst rs w) f
 partners [] t a w f = λ e. absurd (never f e)
@@ -66,6 +68,7 @@ partners (r ∷ rs) t a w f =
   where
     yes : matches (r .layout) w ≡ true → flipFirst (r ∷ rs) w ≡ flip (r .layout) "S" w
     yes m = rw m
+
     no-match : matches (r .layout) w ≡ false → flipFirst (r ∷ rs) w ≡ flipFirst rs w
     no-match m = rw m
 

@@ -116,13 +116,28 @@ AllTurn [] = Unit {0}
 AllTurn (r ∷ rs) = Turns r × AllTurn rs
 
 pub table-turns : AllTurn table
-table-turns =
-    (record { spared = refl; size-kept = λ w. rw (sizeA-kept w); fields-turned = turnedA; sign = λ w. sym (signA w (eqb (w / 4194304 % 4) 1)) },
-    (record { spared = refl; size-kept = λ w. rw (sizeB-kept w); fields-turned = turnedB; sign = λ w. refl },
-    (record { spared = refl; size-kept = λ w. refl; fields-turned = turnedC16; sign = λ w. refl },
-    (record { spared = refl; size-kept = λ w. refl; fields-turned = turnedC32; sign = λ w. refl },
-    (record { spared = refl; size-kept = λ w. refl; fields-turned = turnedD2; sign = λ w. refl },
-    (record { spared = refl; size-kept = λ w. refl; fields-turned = turnedD4; sign = λ w. refl },
-    (record { spared = refl; size-kept = λ w. refl; fields-turned = turnedE2; sign = λ w. refl },
-    (record { spared = refl; size-kept = λ w. refl; fields-turned = turnedE4; sign = λ w. refl },
-    tt))))))))
+table-turns = (
+  record { spared = refl; size-kept = λ w. rw (sizeA-kept w); fields-turned = turnedA; sign = λ w. sym (signA w (eqb (w / 4194304 % 4) 1)) },
+  (
+    record { spared = refl; size-kept = λ w. rw (sizeB-kept w); fields-turned = turnedB; sign = λ w. refl },
+    (
+      record { spared = refl; size-kept = λ w. refl; fields-turned = turnedC16; sign = λ w. refl },
+      (
+        record { spared = refl; size-kept = λ w. refl; fields-turned = turnedC32; sign = λ w. refl },
+        (
+          record { spared = refl; size-kept = λ w. refl; fields-turned = turnedD2; sign = λ w. refl },
+          (
+            record { spared = refl; size-kept = λ w. refl; fields-turned = turnedD4; sign = λ w. refl },
+            (
+              record { spared = refl; size-kept = λ w. refl; fields-turned = turnedE2; sign = λ w. refl },
+              (
+                record { spared = refl; size-kept = λ w. refl; fields-turned = turnedE4; sign = λ w. refl },
+                tt,
+              ),
+            ),
+          ),
+        ),
+      ),
+    ),
+  ),
+)

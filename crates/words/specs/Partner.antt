@@ -38,7 +38,8 @@ turned f =
       second = f .second;
       group = f .group;
       select = f .select;
-      offset = f .offset }
+      offset = f .offset;
+    }
 
 -- the number and the word of an answer
 abbrev pub partneredSays : Partnered → ℕ × ℕ

@@ -74,27 +74,31 @@ fieldsB w = vector w (8 * 2 ^ value rowB "s" w)
 abbrev pub reservedB : ℕ → Bool
 reservedB w = eqb (value rowB "s" w) 0b11
 
--- C, of the row and its lane: the index joins its high and low i bits
-abbrev pub fieldsC : Layout → ℕ → ℕ → Fields
-fieldsC row lane w =
+-- C, of a lane, an index and a second source
+abbrev pub saturating : Layout → ℕ → ℕ → ℕ → ℕ → Fields
+saturating row w lane index second =
     record {
       family = Saturating;
       unsigned = false;
       subtract = isOne (value row "S" w);
       lane = lane;
       part = value row "T" w;
-      index = value row "i" w;
+      index = index;
       destination = value row "d" w;
       first = value row "n" w;
-      second = value row "m" w;
+      second = second;
       group = 1;
       select = 0;
       offset = 0;
     }
 
--- D and E, of the row, its group, lane and offset: the sources are nnn(n) and mmm(m) times the group; the select register is W(8+vv)
-abbrev pub fieldsZa : Family → Layout → ℕ → ℕ → ℕ → ℕ → Fields
-fieldsZa family row group lane offset w =
+-- the index joins its high and low i bits
+abbrev pub fieldsC : Layout → ℕ → ℕ → Fields
+fieldsC row lane w = saturating row w lane (value row "i" w) (value row "m" w)
+
+-- D and E, of a lane, the two sources, the group and the offset: the select register is W(8+vv)
+abbrev pub intoZa : Family → Layout → ℕ → ℕ → ℕ → ℕ → ℕ → ℕ → Fields
+intoZa family row w lane first second group offset =
     record {
       family = family;
       unsigned = isOne (value row "U" w);
@@ -103,20 +107,20 @@ fieldsZa family row group lane offset w =
       part = 0;
       index = 0;
       destination = 0;
-      first = value row "n" w * group;
-      second = value row "m" w * group;
+      first = first;
+      second = second;
       group = group;
       select = 8 + value row "v" w;
       offset = offset;
     }
 
--- D: lane 8 (z=0) or 16 (z=1), offset 4·o
+-- D: lane 8 (z=0) or 16 (z=1), offset 4·o; the first source is nnn(n) times the group, likewise the second
 abbrev pub fieldsD : Layout → ℕ → ℕ → Fields
-fieldsD row group w = fieldsZa LongLong row group (8 + 8 * value row "z" w) (4 * value row "o" w) w
+fieldsD row group w = intoZa LongLong row w (8 + 8 * value row "z" w) (value row "n" w * group) (value row "m" w * group) group (4 * value row "o" w)
 
--- E: lane 16, offset 2·oo
+-- E: lane 16, offset 2·oo; the sources as in D
 abbrev pub fieldsE : Layout → ℕ → ℕ → Fields
-fieldsE row group w = fieldsZa Long row group 16 (2 * value row "o" w) w
+fieldsE row group w = intoZa Long row w 16 (value row "n" w * group) (value row "m" w * group) group (2 * value row "o" w)
 
 -- a row of the table: the layout, whether a word's size is reserved, and what a word says
 pub record Row : Type 0 where

@@ -2,7 +2,7 @@ ghost use mathlib.Core.Path.{_≡_};
 ghost use Prim.Native.Nat.{_+_, _*_, _/_, _%_, _^_, _<_};
 ghost use Rattle.layouts.specs.Layout.{matches, flip};
 ghost use Rattle.words.specs.Rows.{rowA, rowB, rowC16, rowC32, rowD2, rowD4, rowE2, rowE4};
-ghost use Rattle.words.specs.Says.{byElement, fieldsA16, fieldsA32, vector, fieldsC, fieldsD, fieldsE, entryA, entryB, tableZa, saysOf, saysFirst, describe as describePaper};
+ghost use Rattle.words.specs.Says.{byElement, fieldsA16, fieldsA32, vector, saturating, fieldsC, intoZa, fieldsD, fieldsE, entryA, entryB, tableZa, saysOf, saysFirst, describe as describePaper};
 ghost use Rattle.words.specs.Decode.{enables as enablesPaper, decodedSays, decodeEnabled, decodePaper};
 ghost use Rattle.words.specs.Partner.{partnerIn, partneredSays, partnerPaper};
 use settings::Features;
@@ -59,6 +59,7 @@ pub enum Partnered {
     Refused(Refusal),
 }
 
+// 0 Q U 01111 ss L M mmmm 0 S 1 0 H 0 nnnnn ddddd
 fn is_a(w: u32) -> bool
     ensures { λ r. ⌜ r ≡ matches rowA w ⌝ }
 {
@@ -69,6 +70,7 @@ fn is_a(w: u32) -> bool
         & (w / 1024 % 2 == 0)
 }
 
+// 0 Q U 01110 ss 1 mmmmm 1 0 S 0 0 0 nnnnn ddddd
 fn is_b(w: u32) -> bool
     ensures { λ r. ⌜ r ≡ matches rowB w ⌝ }
 {
@@ -79,18 +81,21 @@ fn is_b(w: u32) -> bool
         & (w / 1024 % 8 == 0b000)
 }
 
+// 01000100 10 1 ii mmm 001 S i T nnnnn ddddd
 fn is_c16(w: u32) -> bool
     ensures { λ r. ⌜ r ≡ matches rowC16 w ⌝ }
 {
     (w / 2097152 % 2048 == 0b01000100101) & (w / 8192 % 8 == 0b001)
 }
 
+// 01000100 11 1 i mmmm 001 S i T nnnnn ddddd
 fn is_c32(w: u32) -> bool
     ensures { λ r. ⌜ r ≡ matches rowC32 w ⌝ }
 {
     (w / 2097152 % 2048 == 0b01000100111) & (w / 8192 % 8 == 0b001)
 }
 
+// 110000011 z 1 mmmm 0 0 vv 000 nnnn 0 U S 0 0 o
 fn is_d2(w: u32) -> bool
     ensures { λ r. ⌜ r ≡ matches rowD2 w ⌝ }
 {
@@ -102,6 +107,7 @@ fn is_d2(w: u32) -> bool
         & (w / 2 % 4 == 0b00)
 }
 
+// 110000011 z 1 mmm 0 1 0 vv 000 nnn 0 0 U S 0 0 o
 fn is_d4(w: u32) -> bool
     ensures { λ r. ⌜ r ≡ matches rowD4 w ⌝ }
 {
@@ -113,6 +119,7 @@ fn is_d4(w: u32) -> bool
         & (w / 2 % 4 == 0b00)
 }
 
+// 110000011 1 1 mmmm 0 0 vv 010 nnnn 0 U S 0 oo
 fn is_e2(w: u32) -> bool
     ensures { λ r. ⌜ r ≡ matches rowE2 w ⌝ }
 {
@@ -123,6 +130,7 @@ fn is_e2(w: u32) -> bool
         & (w / 4 % 2 == 0)
 }
 
+// 110000011 1 1 mmm 0 1 0 vv 010 nnn 0 0 U S 0 oo
 fn is_e4(w: u32) -> bool
     ensures { λ r. ⌜ r ≡ matches rowE4 w ⌝ }
 {
@@ -231,118 +239,121 @@ fn says_b(w: u32) -> Described
     Described::As(vector_fields(w, lane_b(size)))
 }
 
-fn fields_c16(w: u32) -> Fields
-    ensures { λ r. ⌜ r ≡ fieldsC rowC16 16 w ⌝ }
+fn saturating_fields(w: u32, lane: u32, index: u32, second: u32) -> Fields
+    ensures { λ r. ⌜ r ≡ saturating rowC16 w lane index second ⌝ }
 {
     Fields {
         family: Family::Saturating,
         unsigned: false,
         subtract: w / 4096 % 2 == 1,
-        lane: 16,
+        lane: lane,
         part: w / 1024 % 2,
-        index: w / 524288 % 4 * 2 + w / 2048 % 2,
+        index: index,
         destination: w % 32,
         first: w / 32 % 32,
-        second: w / 65536 % 8,
+        second: second,
         group: 1,
         select: 0,
         offset: 0,
     }
 }
 
+fn fields_c16(w: u32) -> Fields
+    ensures { λ r. ⌜ r ≡ fieldsC rowC16 16 w ⌝ }
+{
+    saturating_fields(w, 16, w / 524288 % 4 * 2 + w / 2048 % 2, w / 65536 % 8)
+}
+
 fn fields_c32(w: u32) -> Fields
     ensures { λ r. ⌜ r ≡ fieldsC rowC32 32 w ⌝ }
 {
+    saturating_fields(w, 32, w / 1048576 % 2 * 2 + w / 2048 % 2, w / 65536 % 16)
+}
+
+// U, S and vv stand at the same bits in the four rows of D and E.
+fn za_fields(
+    family: Family,
+    w: u32,
+    lane: u32,
+    first: u32,
+    second: u32,
+    group: u32,
+    offset: u32,
+) -> Fields
+    ensures { λ r. ⌜ r ≡ intoZa family rowD2 w lane first second group offset ⌝ }
+{
     Fields {
-        family: Family::Saturating,
-        unsigned: false,
-        subtract: w / 4096 % 2 == 1,
-        lane: 32,
-        part: w / 1024 % 2,
-        index: w / 1048576 % 2 * 2 + w / 2048 % 2,
-        destination: w % 32,
-        first: w / 32 % 32,
-        second: w / 65536 % 16,
-        group: 1,
-        select: 0,
-        offset: 0,
+        family: family,
+        unsigned: w / 16 % 2 == 1,
+        subtract: w / 8 % 2 == 1,
+        lane: lane,
+        part: 0,
+        index: 0,
+        destination: 0,
+        first: first,
+        second: second,
+        group: group,
+        select: 8 + w / 8192 % 4,
+        offset: offset,
     }
 }
 
 fn fields_d2(w: u32) -> Fields
     ensures { λ r. ⌜ r ≡ fieldsD rowD2 2 w ⌝ }
 {
-    Fields {
-        family: Family::LongLong,
-        unsigned: w / 16 % 2 == 1,
-        subtract: w / 8 % 2 == 1,
-        lane: 8 + 8 * (w / 4194304 % 2),
-        part: 0,
-        index: 0,
-        destination: 0,
-        first: w / 64 % 16 * 2,
-        second: w / 131072 % 16 * 2,
-        group: 2,
-        select: 8 + w / 8192 % 4,
-        offset: 4 * (w % 2),
-    }
+    let lane = 8 + 8 * (w / 4194304 % 2);
+    za_fields(
+        Family::LongLong,
+        w,
+        lane,
+        w / 64 % 16 * 2,
+        w / 131072 % 16 * 2,
+        2,
+        4 * (w % 2),
+    )
 }
 
 fn fields_d4(w: u32) -> Fields
     ensures { λ r. ⌜ r ≡ fieldsD rowD4 4 w ⌝ }
 {
-    Fields {
-        family: Family::LongLong,
-        unsigned: w / 16 % 2 == 1,
-        subtract: w / 8 % 2 == 1,
-        lane: 8 + 8 * (w / 4194304 % 2),
-        part: 0,
-        index: 0,
-        destination: 0,
-        first: w / 128 % 8 * 4,
-        second: w / 262144 % 8 * 4,
-        group: 4,
-        select: 8 + w / 8192 % 4,
-        offset: 4 * (w % 2),
-    }
+    let lane = 8 + 8 * (w / 4194304 % 2);
+    za_fields(
+        Family::LongLong,
+        w,
+        lane,
+        w / 128 % 8 * 4,
+        w / 262144 % 8 * 4,
+        4,
+        4 * (w % 2),
+    )
 }
 
 fn fields_e2(w: u32) -> Fields
     ensures { λ r. ⌜ r ≡ fieldsE rowE2 2 w ⌝ }
 {
-    Fields {
-        family: Family::Long,
-        unsigned: w / 16 % 2 == 1,
-        subtract: w / 8 % 2 == 1,
-        lane: 16,
-        part: 0,
-        index: 0,
-        destination: 0,
-        first: w / 64 % 16 * 2,
-        second: w / 131072 % 16 * 2,
-        group: 2,
-        select: 8 + w / 8192 % 4,
-        offset: 2 * (w % 4),
-    }
+    za_fields(
+        Family::Long,
+        w,
+        16,
+        w / 64 % 16 * 2,
+        w / 131072 % 16 * 2,
+        2,
+        2 * (w % 4),
+    )
 }
 
 fn fields_e4(w: u32) -> Fields
     ensures { λ r. ⌜ r ≡ fieldsE rowE4 4 w ⌝ }
 {
-    Fields {
-        family: Family::Long,
-        unsigned: w / 16 % 2 == 1,
-        subtract: w / 8 % 2 == 1,
-        lane: 16,
-        part: 0,
-        index: 0,
-        destination: 0,
-        first: w / 128 % 8 * 4,
-        second: w / 262144 % 8 * 4,
-        group: 4,
-        select: 8 + w / 8192 % 4,
-        offset: 2 * (w % 4),
-    }
+    za_fields(
+        Family::Long,
+        w,
+        16,
+        w / 128 % 8 * 4,
+        w / 262144 % 8 * 4,
+        4,
+        2 * (w % 4),
+    )
 }
 
 // A word of families D and E.

@@ -19,14 +19,14 @@ enum-known-decoded-2 : tie.Need-enum-known-decoded-2
 enum-known-decoded-2 c = search needs
 
 returns : tie.Need-returns
-returns c = 
+returns c =
     let d = c .before .before .before .before in
     let f = c .before .before .decoded .given .0 .0 in
     c .partner-in .ensures
     ∙ sym (partner-is (d .before .args .settings) (d .before .args .word) f (sym (d .decode .ensures) ∙ ap decodedSays (c .before .before .decoded .given .1)))
 
 returns-2 : tie.Need-returns-2
-returns-2 c = 
+returns-2 c =
     let d = c .before .before .before in
     let r = c .before .decoded2 .given .0 .0 in
     sym (partner-refused (d .before .args .settings) (d .before .args .word) _ (sym (d .decode .ensures) ∙ ap decodedSays (c .before .decoded2 .given .1)) (refusal-not-0 r))
