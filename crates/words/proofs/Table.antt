@@ -7,7 +7,7 @@ use mathlib.Core.List.{List, [], _∷_, map, List·Memᴰ, List·Memᴰ·head, L
 use mathlib.Core.Logic.{⊎-elim, _↔_}
 use mathlib.Core.Bool.{Bool, true, false, _&&_, cond}
 use Rattle.laws.proofs.Tests.{both, failed, by-cond}
-use Rattle.layouts.specs.Layout.{Layout, matches}
+use Rattle.layouts.specs.Layout.{Layout, size, matches}
 use Rattle.layouts.proofs.Apart.{apart, apartFrom, allApart, no-word-in-both}
 use Rattle.words.specs.Says.{Row, table, saysOf, saysFirst, describe}
 use Rattle.words.specs.declared.Fields.{Fields}
@@ -21,6 +21,10 @@ layouts (r ∷ rs) = r .layout ∷ layouts rs
 -- the whole of it: each two layouts of the table fix some bit differently
 pub table-apart : allApart (layouts table) ≡ true
 table-apart = refl
+
+-- each row of the table is 32 bits wide
+pub table-32 : map size (layouts table) ≡ 32 ∷ 32 ∷ 32 ∷ 32 ∷ 32 ∷ 32 ∷ 32 ∷ 32 ∷ []
+table-32 = refl
 
 -- a row apart from others shares no word with any of them
 pub apart-from : (r q : Row) (rs : List Row) (w : ℕ) → apartFrom (r .layout) (layouts rs) ≡ true → List·Memᴰ q rs → matches (r .layout) w ≡ true → matches (q .layout) w ≡ true → ⊥
@@ -59,6 +63,7 @@ pub record SaidBy (rs : List Row) (w : ℕ) (f : Fields) : Type 0 where
   pub open-size : row .reserved w ≡ false
   pub fields : row .fields w ≡ f
 
+-- what a description says is one thing, and is not nothing
 pub found : (g f : Fields) → As g ≡ As f → g ≡ f
 found g f e = cc
 

@@ -3,21 +3,18 @@ use borrow.Author.Needs.{needs}
 use Rattle.words.proofs.enables.Statement.{statement}
 use Rattle.words.proofs.enables.Tie as tie
 
--- /work/main/target/rlib/settings.rlib/interface/lang/src/lib.rt:3:33
 enum-told : tie.Need-enum-told
 enum-told c = search needs
 
 contains-requires : tie.Need-contains-requires
 contains-requires c κs = search needs
 
--- /work/main/target/rlib/settings.rlib/interface/lang/src/lib.rt:3:33
 enum-told-2 : tie.Need-enum-told-2
 enum-told-2 c = search needs
 
 contains-requires-2 : tie.Need-contains-requires-2
 contains-requires-2 c κs = search needs
 
--- /work/main/target/rlib/settings.rlib/interface/lang/src/lib.rt:4:29
 enum-told-3 : tie.Need-enum-told-3
 enum-told-3 c = search needs
 
@@ -27,7 +24,6 @@ contains-requires-3 c κs = search needs
 contains-requires-4 : tie.Need-contains-requires-4
 contains-requires-4 c κs = search needs
 
--- /work/main/target/rlib/settings.rlib/interface/lang/src/lib.rt:6:29
 enum-told-4 : tie.Need-enum-told-4
 enum-told-4 c = search needs
 
@@ -37,7 +33,6 @@ contains-requires-5 c κs = search needs
 contains-requires-6 : tie.Need-contains-requires-6
 contains-requires-6 c κs = search needs
 
--- /work/main/target/rlib/settings.rlib/interface/lang/src/lib.rt:6:29
 enum-told-5 : tie.Need-enum-told-5
 enum-told-5 c = search needs
 

@@ -1,0 +1,3 @@
+pub mod Only
+pub mod Equal
+pub mod Theorems

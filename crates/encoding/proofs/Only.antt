@@ -1,0 +1,139 @@
+-- A word that has given fields is the candidate of those fields: encode's refusal 5 rests on it, and so does the uniqueness of the word. Each
+-- row is one use of the inverse law of layouts, and the arithmetic of its fields. Assumes nothing.
+use Prim.Native.Nat.{ℕ, zero, suc, _+_, _*_, _/_, _%_, _^_, _<_}
+use native.Mathlib.Nat.{mod-eq-of-lt}
+use native.Mathlib.Omega.{arith}
+use mathlib.Core.Path.{_≡_, refl, subst, _∙_}
+use mathlib.Core.List.{List, [], _∷_}
+use mathlib.Core.Bool.{true, false}
+use lib.Dec.{eqb}
+use borrow.Author.Tests.{eqb-true, eqb-false, not-false}
+use Rattle.laws.proofs.Tests.{by-cond, cond-holds, either, never-both}
+use Rattle.layouts.specs.Layout.{Layout, size, matches, value, build}
+use Rattle.layouts.proofs.Inverse.{Agrees, build-agrees}
+use Rattle.words.specs.Rows.{rowA, rowB, rowC16, rowC32, rowD2, rowD4, rowE2, rowE4}
+use Rattle.words.specs.Says.{isOne, Row, entry, entryA, entryB, table, saysFirst, describe, fieldsA16, fieldsA32, fieldsB, fieldsC, fieldsD, fieldsE}
+use Rattle.words.specs.declared.Fields.{Fields}
+use Rattle.words.specs.declared.Described.the-variants.{As}
+use Rattle.words.proofs.Table.{found, never}
+use Rattle.encoding.specs.Candidate.{bitOf, candidateOf, valuesA16, valuesA32, valuesB, valuesC16, valuesC32, valuesD, valuesE}
+
+-- ---- from the rows to the table
+
+-- a word of the row that is not reserved is the candidate of its fields
+abbrev Undone : Row → ℕ → Type 0
+Undone r w = matches (r .layout) w ≡ true → r .reserved w ≡ false → candidateOf (r .fields w) ≡ w
+
+abbrev AllUndone : List Row → ℕ → Type 0
+AllUndone [] w = Unit {0}
+AllUndone (r ∷ rs) w = Undone r w × AllUndone rs w
+
+undone : (rs : List Row) (w : ℕ) (f : Fields) → AllUndone rs w → saysFirst rs w ≡ As f → candidateOf f ≡ w
+undone [] w f k e = absurd (never f e)
+undone (r ∷ rs) w f k e =
+    by-cond (matches (r .layout) w) _ _ _
+    (λ m. by-cond (r .reserved w) _ _ _
+    (λ _ d. absurd (never f d))
+    (λ n d. subst (λ (g : Fields). candidateOf g ≡ w) (found (r .fields w) f d) (k .0 m n)))
+    (λ _. undone rs w f (k .1))
+    e
+
+-- ---- the numbers of the fields
+
+bit-is : (x : ℕ) → x < 2 → bitOf (isOne x) ≡ x
+bit-is zero h = refl
+bit-is (suc zero) h = refl
+bit-is (suc (suc x)) h = absurd (omega arith)
+
+lane-d : (x : ℕ) → x < 2 → (8 + 8 * x) / 16 % 2 ≡ x
+lane-d zero h = refl
+lane-d (suc zero) h = refl
+lane-d (suc (suc x)) h = absurd (omega arith)
+
+lane-b : (x : ℕ) → x < 4 → eqb x 3 ≡ false → 8 * 2 ^ x / 16 % 4 ≡ x
+lane-b zero h e = refl
+lane-b (suc zero) h e = refl
+lane-b (suc (suc zero)) h e = refl
+lane-b (suc (suc (suc zero))) h e = absurd (eqb-false 3 3 e refl)
+lane-b (suc (suc (suc (suc x)))) h e = absurd (omega arith)
+
+-- H:L:M, H:L and M:mmmm
+join3 : (h l m : ℕ) → h < 2 → l < 2 → m < 2 → ((h * 4 + l * 2 + m) / 4 % 2 ≡ h) × ((h * 4 + l * 2 + m) / 2 % 2 ≡ l) × ((h * 4 + l * 2 + m) % 2 ≡ m)
+join3 h l m p q r = omega arith
+
+join2 : (h l : ℕ) → h < 2 → l < 2 → ((h * 2 + l) / 2 % 2 ≡ h) × ((h * 2 + l) % 2 ≡ l)
+join2 h l p q = omega arith
+
+join-second : (m low : ℕ) → m < 2 → low < 16 → ((m * 16 + low) / 16 % 2 ≡ m) × ((m * 16 + low) % 16 ≡ low)
+join-second m low p q = omega arith
+
+-- ---- the rows
+
+module _ (w : ℕ) (lt : w < 2 ^ 32) where
+  one-row : (l : Layout) (vs : List ℕ) → size l ≡ 32 → matches l w ≡ true → Agrees l vs w → build l vs ≡ w
+  one-row l vs e m a = build-agrees l vs w m a ∙ mod-eq-of-lt (rw e lt)
+
+  -- ss 01, and else ss 10
+  a-undone : Undone entryA w
+  a-undone m n =
+      let s = value rowA "s" w in
+      let unsigned = bit-is (value rowA "U" w) (omega arith) in
+      let subtract = bit-is (value rowA "S" w) (omega arith) in
+      cond-holds (λ (g : Fields). candidateOf g ≡ w) (eqb s 0b01) (fieldsA16 w) (fieldsA32 w)
+      (λ e. one-row rowA (valuesA16 (fieldsA16 w)) refl m
+      (let size-01 = eqb-true s 0b01 e in
+      let index = join3 (value rowA "H" w) (value rowA "L" w) (value rowA "M" w) (omega arith) (omega arith) (omega arith) in
+      omega arith))
+      (λ e. one-row rowA (valuesA32 (fieldsA32 w)) refl m
+      (let size-10 = either (eqb s 0b01) (eqb s 0b10) (not-false _ n) (λ y. absurd (never-both _ y e)) (λ y. eqb-true s 0b10 y) in
+      let index = join2 (value rowA "H" w) (value rowA "L" w) (omega arith) (omega arith) in
+      let second = join-second (value rowA "M" w) (value rowA "m" w) (omega arith) (omega arith) in
+      omega arith))
+
+  b-undone : Undone entryB w
+  b-undone m n =
+      let unsigned = bit-is (value rowB "U" w) (omega arith) in
+      let subtract = bit-is (value rowB "S" w) (omega arith) in
+      let lane = lane-b (value rowB "s" w) (omega arith) n in
+      one-row rowB (valuesB (fieldsB w)) refl m (omega arith)
+
+  c16-undone : Undone (entry rowC16 (fieldsC rowC16 16)) w
+  c16-undone m _ =
+      let subtract = bit-is (value rowC16 "S" w) (omega arith) in
+      one-row rowC16 (valuesC16 (fieldsC rowC16 16 w)) refl m (omega arith)
+
+  c32-undone : Undone (entry rowC32 (fieldsC rowC32 32)) w
+  c32-undone m _ =
+      let subtract = bit-is (value rowC32 "S" w) (omega arith) in
+      one-row rowC32 (valuesC32 (fieldsC rowC32 32 w)) refl m (omega arith)
+
+  -- U and S stand at the same places in the four rows of D and E, and z in the two of D
+  unsigned-za : bitOf (isOne (value rowD2 "U" w)) ≡ value rowD2 "U" w
+  unsigned-za = bit-is _ (omega arith)
+
+  subtract-za : bitOf (isOne (value rowD2 "S" w)) ≡ value rowD2 "S" w
+  subtract-za = bit-is _ (omega arith)
+
+  lane-za : (8 + 8 * value rowD2 "z" w) / 16 % 2 ≡ value rowD2 "z" w
+  lane-za = lane-d _ (omega arith)
+
+  d2-undone : Undone (entry rowD2 (fieldsD rowD2 2)) w
+  d2-undone m _ = one-row rowD2 (valuesD (fieldsD rowD2 2 w) 2 16) refl m (omega (arith, unsigned-za, subtract-za, lane-za))
+
+  d4-undone : Undone (entry rowD4 (fieldsD rowD4 4)) w
+  d4-undone m _ = one-row rowD4 (valuesD (fieldsD rowD4 4 w) 4 8) refl m (omega (arith, unsigned-za, subtract-za, lane-za))
+
+  e2-undone : Undone (entry rowE2 (fieldsE rowE2 2)) w
+  e2-undone m _ = one-row rowE2 (valuesE (fieldsE rowE2 2 w) 2 16) refl m (omega (arith, unsigned-za, subtract-za))
+
+  e4-undone : Undone (entry rowE4 (fieldsE rowE4 4)) w
+  e4-undone m _ = one-row rowE4 (valuesE (fieldsE rowE4 4 w) 4 8) refl m (omega (arith, unsigned-za, subtract-za))
+
+  all-undone : AllUndone table w
+  all-undone =
+      (a-undone, (b-undone, (c16-undone, (c32-undone, (d2-undone, (d4-undone, (e2-undone, (e4-undone, tt))))))))
+
+-- a word with the fields f is the candidate of f
+pub only : (f : Fields) (w : ℕ) → w < 2 ^ 32 → describe w ≡ As f → candidateOf f ≡ w
+unfolding describe
+only f w lt = undone table w f (all-undone w lt)

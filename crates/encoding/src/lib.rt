@@ -1,0 +1,245 @@
+ghost use mathlib.Core.Path.{_≡_};
+ghost use Prim.Native.Nat.{_<_};
+ghost use Rattle.layouts.specs.Layout.{build};
+ghost use Rattle.words.specs.Rows.{rowA, rowB, rowC16, rowC32, rowD2, rowD4, rowE2, rowE4};
+ghost use Rattle.words.specs.Says.{describe};
+ghost use Rattle.encoding.specs.Encode.{Encodes, encodedSays};
+ghost use Rattle.encoding.specs.Candidate.{bitOf, valuesA, valuesA16, valuesA32, valuesB, lowC, valuesC, valuesC16, valuesC32, lowZa2, lowZa4, valuesZa, valuesD, valuesE, candidateOf, familyNumber, sameFamily, sameOf, saysOnly};
+use settings::Refusal;
+use settings::Settings;
+use words::Described;
+use words::Family;
+use words::Fields;
+
+pub enum Encoded {
+    Word(u32),
+    Refused(Refusal),
+}
+
+fn bit(b: bool) -> u32
+    ensures { λ r. ⌜ (r ≡ bitOf b) × (r < 2) ⌝ }
+{
+    if b { 1 } else { 0 }
+}
+
+// A word of family A, of the values of ss, L, M, mmmm and H.
+fn word_a(f: Fields, s: u32, l: u32, m: u32, low: u32, h: u32) -> u32
+    requires { ⌜ (s < 4) × (l < 2) × (m < 2) × (low < 16) × (h < 2) ⌝ }
+    ensures { λ r. ⌜ r ≡ build rowA (valuesA f s l m low h) ⌝ }
+{
+    f.part % 2 * 1073741824
+        + bit(f.unsigned) * 536870912
+        + 0b01111 * 16777216
+        + s * 4194304
+        + l * 2097152
+        + m * 1048576
+        + low * 65536
+        + bit(f.subtract) * 16384
+        + 0b10 * 4096
+        + h * 2048
+        + f.first % 32 * 32
+        + f.destination % 32
+}
+
+fn word_a16(f: Fields) -> u32
+    ensures { λ r. ⌜ r ≡ build rowA (valuesA16 f) ⌝ }
+{
+    word_a(
+        f,
+        0b01,
+        f.index / 2 % 2,
+        f.index % 2,
+        f.second % 16,
+        f.index / 4 % 2,
+    )
+}
+
+fn word_a32(f: Fields) -> u32
+    ensures { λ r. ⌜ r ≡ build rowA (valuesA32 f) ⌝ }
+{
+    word_a(
+        f,
+        0b10,
+        f.index % 2,
+        f.second / 16 % 2,
+        f.second % 16,
+        f.index / 2 % 2,
+    )
+}
+
+fn word_b(f: Fields) -> u32
+    ensures { λ r. ⌜ r ≡ build rowB (valuesB f) ⌝ }
+{
+    f.part % 2 * 1073741824
+        + bit(f.unsigned) * 536870912
+        + 0b01110 * 16777216
+        + f.lane / 16 % 4 * 4194304
+        + 2097152
+        + f.second % 32 * 65536
+        + 0b10 * 16384
+        + bit(f.subtract) * 8192
+        + f.first % 32 * 32
+        + f.destination % 32
+}
+
+// The low 16 bits of a word of family C.
+fn low_c(f: Fields) -> u32
+    ensures { λ r. ⌜ (r ≡ build lowC (valuesC f)) × (r < 65536) ⌝ }
+{
+    0b001 * 8192
+        + bit(f.subtract) * 4096
+        + f.index % 2 * 2048
+        + f.part % 2 * 1024
+        + f.first % 32 * 32
+        + f.destination % 32
+}
+
+fn word_c16(f: Fields) -> u32
+    ensures { λ r. ⌜ r ≡ build rowC16 (valuesC16 f) ⌝ }
+{
+    0b01000100101 * 2097152 + f.index / 2 % 4 * 524288 + f.second % 8 * 65536 + low_c(f)
+}
+
+fn word_c32(f: Fields) -> u32
+    ensures { λ r. ⌜ r ≡ build rowC32 (valuesC32 f) ⌝ }
+{
+    0b01000100111 * 2097152 + f.index / 2 % 2 * 1048576 + f.second % 16 * 65536 + low_c(f)
+}
+
+// The low 21 bits that families D and E share in their rows of group 2, and in those of group 4.
+fn low_za2(f: Fields) -> u32
+    ensures { λ r. ⌜ (r ≡ build lowZa2 (valuesZa f 2 16 0)) × (r < 2097152) ⌝ }
+{
+    f.second / 2 % 16 * 131072
+        + f.select % 4 * 8192
+        + f.first / 2 % 16 * 64
+        + bit(f.unsigned) * 16
+        + bit(f.subtract) * 8
+}
+
+fn low_za4(f: Fields) -> u32
+    ensures { λ r. ⌜ (r ≡ build lowZa4 (valuesZa f 4 8 0)) × (r < 2097152) ⌝ }
+{
+    f.second / 4 % 8 * 262144
+        + 0b010 * 32768
+        + f.select % 4 * 8192
+        + f.first / 4 % 8 * 128
+        + bit(f.unsigned) * 16
+        + bit(f.subtract) * 8
+}
+
+fn word_d2(f: Fields) -> u32
+    ensures { λ r. ⌜ r ≡ build rowD2 (valuesD f 2 16) ⌝ }
+{
+    0b110000011 * 8388608 + f.lane / 16 % 2 * 4194304 + 2097152 + low_za2(f) + f.offset / 4 % 2
+}
+
+fn word_d4(f: Fields) -> u32
+    ensures { λ r. ⌜ r ≡ build rowD4 (valuesD f 4 8) ⌝ }
+{
+    0b110000011 * 8388608 + f.lane / 16 % 2 * 4194304 + 2097152 + low_za4(f) + f.offset / 4 % 2
+}
+
+fn word_e2(f: Fields) -> u32
+    ensures { λ r. ⌜ r ≡ build rowE2 (valuesE f 2 16) ⌝ }
+{
+    0b11000001111 * 2097152 + low_za2(f) + 0b010 * 1024 + f.offset / 2 % 4
+}
+
+fn word_e4(f: Fields) -> u32
+    ensures { λ r. ⌜ r ≡ build rowE4 (valuesE f 4 8) ⌝ }
+{
+    0b11000001111 * 2097152 + low_za4(f) + 0b010 * 1024 + f.offset / 2 % 4
+}
+
+// The only word that can have the fields.
+fn candidate(f: Fields) -> u32
+    ensures { λ r. ⌜ r ≡ candidateOf f ⌝ }
+{
+    let family = f.family;
+    match family {
+        Family::ByElement => {
+            if f.lane == 16 {
+                word_a16(f)
+            } else {
+                word_a32(f)
+            }
+        }
+        Family::Vector => word_b(f),
+        Family::Saturating => {
+            if f.lane == 16 {
+                word_c16(f)
+            } else {
+                word_c32(f)
+            }
+        }
+        Family::LongLong => { if f.group == 2 { word_d2(f) } else { word_d4(f) } }
+        Family::Long => { if f.group == 2 { word_e2(f) } else { word_e4(f) } }
+    }
+}
+
+fn family_number(family: Family) -> u32
+    ensures { λ r. ⌜ r ≡ familyNumber family ⌝ }
+{
+    match family {
+        Family::ByElement => 1,
+        Family::Vector => 2,
+        Family::Saturating => 3,
+        Family::LongLong => 4,
+        Family::Long => 5,
+    }
+}
+
+fn same_family(a: Family, b: Family) -> bool
+    ensures { λ r. ⌜ r ≡ sameFamily a b ⌝ }
+{
+    family_number(a) == family_number(b)
+}
+
+fn same(f: Fields, g: Fields) -> bool
+    ensures { λ r. ⌜ r ≡ sameOf f g ⌝ }
+{
+    let a = f.family;
+    let b = g.family;
+    (f.unsigned == g.unsigned)
+        & (f.subtract == g.subtract)
+        & (f.lane == g.lane)
+        & (f.part == g.part)
+        & (f.index == g.index)
+        & (f.destination == g.destination)
+        & (f.first == g.first)
+        & (f.second == g.second)
+        & (f.group == g.group)
+        & (f.select == g.select)
+        & (f.offset == g.offset)
+        & same_family(a, b)
+}
+
+// Whether the word has exactly these fields.
+fn has(word: u32, fields: Fields) -> bool
+    ensures { λ r. ⌜ r ≡ saysOnly fields (describe word) ⌝ }
+{
+    let described = words::describe(word);
+    match described {
+        Described::As(found) => same(fields, found),
+        Described::Nothing => false,
+    }
+}
+
+// The word that has exactly these fields. Refusals 1, 5, 3.
+pub fn encode(settings: Settings, fields: Fields) -> Encoded
+    ensures { λ r. ⌜ Encodes settings fields (encodedSays r) ⌝ }
+{
+    if settings.valid() {
+        let word = candidate(fields);
+        if has(word, fields) {
+            let features = settings.features;
+            if words::enables(features, fields) {
+                return Encoded::Word(word);
+            }
+            return Encoded::Refused(Refusal::UnknownWord);
+        }
+        return Encoded::Refused(Refusal::NoSuchWord);
+    }
+    Encoded::Refused(Refusal::BadSettings)
+}

@@ -1,0 +1,25 @@
+-- The rules run: which sums are valid.
+use Prim.Native.Nat.{ℕ, zero, suc}
+use mathlib.Core.Path.{_≡_, refl}
+use mathlib.Core.Bool.{Bool, true, false, cond}
+use mathlib.Core.List.{List, [], _∷_, _++_}
+use Rattle.settings.specs.Valid.{validLength, validFeatures, validModes, validSettings}
+
+-- the numbers below n that pass
+abbrev passing : (ℕ → Bool) → ℕ → List ℕ
+passing test zero = []
+passing test (suc n) = passing test n ++ cond (test n) (n ∷ []) []
+
+-- the first two features are free; SME2 and I16I64 come only with SME
+features-valid : passing validFeatures 64 ≡ 0 ∷ 1 ∷ 2 ∷ 3 ∷ 4 ∷ 5 ∷ 6 ∷ 7 ∷ 12 ∷ 13 ∷ 14 ∷ 15 ∷ 20 ∷ 21 ∷ 22 ∷ 23 ∷ 28 ∷ 29 ∷ 30 ∷ 31 ∷ []
+features-valid = refl
+
+-- without SME no mode is on
+modes-without : passing (validModes 3) 8 ≡ 0 ∷ []
+modes-without = refl
+
+modes-with : passing (validModes 4) 8 ≡ 0 ∷ 1 ∷ 2 ∷ 3 ∷ []
+modes-with = refl
+
+lengths-valid : passing validLength 1025 ≡ 128 ∷ 256 ∷ 512 ∷ []
+lengths-valid = refl
