@@ -5,6 +5,7 @@ ghost use Rattle.words.specs.Rows.{rowA, rowB, rowC16, rowC32, rowD2, rowD4, ro
 ghost use Rattle.words.specs.Says.{describe};
 ghost use Rattle.encoding.specs.Encode.{Encodes, encodedSays};
 ghost use Rattle.encoding.specs.Candidate.{bitOf, valuesA, valuesA16, valuesA32, valuesB, lowC, valuesC, valuesC16, valuesC32, lowZa2, lowZa4, valuesZa, valuesD, valuesE, candidateOf, familyNumber, sameFamily, sameOf, saysOnly};
+use layouts::*;
 use settings::Refusal;
 use settings::Settings;
 use words::Described;
@@ -27,17 +28,17 @@ fn word_a(f: Fields, s: u32, l: u32, m: u32, low: u32, h: u32) -> u32
     requires { ⌜ (s < 4) × (l < 2) × (m < 2) × (low < 16) × (h < 2) ⌝ }
     ensures { λ r. ⌜ r ≡ build rowA (valuesA f s l m low h) ⌝ }
 {
-    f.part % 2 * 1073741824
-        + bit(f.unsigned) * 536870912
-        + 0b01111 * 16777216
-        + s * 4194304
-        + l * 2097152
-        + m * 1048576
-        + low * 65536
-        + bit(f.subtract) * 16384
-        + 0b10 * 4096
-        + h * 2048
-        + f.first % 32 * 32
+    f.part % 2 * BIT_30
+        + bit(f.unsigned) * BIT_29
+        + 0b01111 * BIT_24
+        + s * BIT_22
+        + l * BIT_21
+        + m * BIT_20
+        + low * BIT_16
+        + bit(f.subtract) * BIT_14
+        + 0b10 * BIT_12
+        + h * BIT_11
+        + f.first % 32 * BIT_5
         + f.destination % 32
 }
 
@@ -70,15 +71,15 @@ fn word_a32(f: Fields) -> u32
 fn word_b(f: Fields) -> u32
     ensures { λ r. ⌜ r ≡ build rowB (valuesB f) ⌝ }
 {
-    f.part % 2 * 1073741824
-        + bit(f.unsigned) * 536870912
-        + 0b01110 * 16777216
-        + f.lane / 16 % 4 * 4194304
-        + 2097152
-        + f.second % 32 * 65536
-        + 0b10 * 16384
-        + bit(f.subtract) * 8192
-        + f.first % 32 * 32
+    f.part % 2 * BIT_30
+        + bit(f.unsigned) * BIT_29
+        + 0b01110 * BIT_24
+        + f.lane / 16 % 4 * BIT_22
+        + BIT_21
+        + f.second % 32 * BIT_16
+        + 0b10 * BIT_14
+        + bit(f.subtract) * BIT_13
+        + f.first % 32 * BIT_5
         + f.destination % 32
 }
 
@@ -86,70 +87,70 @@ fn word_b(f: Fields) -> u32
 fn low_c(f: Fields) -> u32
     ensures { λ r. ⌜ (r ≡ build lowC (valuesC f)) × (r < 65536) ⌝ }
 {
-    0b001 * 8192
-        + bit(f.subtract) * 4096
-        + f.index % 2 * 2048
-        + f.part % 2 * 1024
-        + f.first % 32 * 32
+    0b001 * BIT_13
+        + bit(f.subtract) * BIT_12
+        + f.index % 2 * BIT_11
+        + f.part % 2 * BIT_10
+        + f.first % 32 * BIT_5
         + f.destination % 32
 }
 
 fn word_c16(f: Fields) -> u32
     ensures { λ r. ⌜ r ≡ build rowC16 (valuesC16 f) ⌝ }
 {
-    0b01000100101 * 2097152 + f.index / 2 % 4 * 524288 + f.second % 8 * 65536 + low_c(f)
+    0b01000100101 * BIT_21 + f.index / 2 % 4 * BIT_19 + f.second % 8 * BIT_16 + low_c(f)
 }
 
 fn word_c32(f: Fields) -> u32
     ensures { λ r. ⌜ r ≡ build rowC32 (valuesC32 f) ⌝ }
 {
-    0b01000100111 * 2097152 + f.index / 2 % 2 * 1048576 + f.second % 16 * 65536 + low_c(f)
+    0b01000100111 * BIT_21 + f.index / 2 % 2 * BIT_20 + f.second % 16 * BIT_16 + low_c(f)
 }
 
 // The low 21 bits that families D and E share in their rows of group 2, and in those of group 4.
 fn low_za2(f: Fields) -> u32
     ensures { λ r. ⌜ (r ≡ build lowZa2 (valuesZa f 2 16 0)) × (r < 2097152) ⌝ }
 {
-    f.second / 2 % 16 * 131072
-        + f.select % 4 * 8192
-        + f.first / 2 % 16 * 64
-        + bit(f.unsigned) * 16
-        + bit(f.subtract) * 8
+    f.second / 2 % 16 * BIT_17
+        + f.select % 4 * BIT_13
+        + f.first / 2 % 16 * BIT_6
+        + bit(f.unsigned) * BIT_4
+        + bit(f.subtract) * BIT_3
 }
 
 fn low_za4(f: Fields) -> u32
     ensures { λ r. ⌜ (r ≡ build lowZa4 (valuesZa f 4 8 0)) × (r < 2097152) ⌝ }
 {
-    f.second / 4 % 8 * 262144
-        + 0b010 * 32768
-        + f.select % 4 * 8192
-        + f.first / 4 % 8 * 128
-        + bit(f.unsigned) * 16
-        + bit(f.subtract) * 8
+    f.second / 4 % 8 * BIT_18
+        + 0b010 * BIT_15
+        + f.select % 4 * BIT_13
+        + f.first / 4 % 8 * BIT_7
+        + bit(f.unsigned) * BIT_4
+        + bit(f.subtract) * BIT_3
 }
 
 fn word_d2(f: Fields) -> u32
     ensures { λ r. ⌜ r ≡ build rowD2 (valuesD f 2 16) ⌝ }
 {
-    0b110000011 * 8388608 + f.lane / 16 % 2 * 4194304 + 2097152 + low_za2(f) + f.offset / 4 % 2
+    0b110000011 * BIT_23 + f.lane / 16 % 2 * BIT_22 + BIT_21 + low_za2(f) + f.offset / 4 % 2
 }
 
 fn word_d4(f: Fields) -> u32
     ensures { λ r. ⌜ r ≡ build rowD4 (valuesD f 4 8) ⌝ }
 {
-    0b110000011 * 8388608 + f.lane / 16 % 2 * 4194304 + 2097152 + low_za4(f) + f.offset / 4 % 2
+    0b110000011 * BIT_23 + f.lane / 16 % 2 * BIT_22 + BIT_21 + low_za4(f) + f.offset / 4 % 2
 }
 
 fn word_e2(f: Fields) -> u32
     ensures { λ r. ⌜ r ≡ build rowE2 (valuesE f 2 16) ⌝ }
 {
-    0b11000001111 * 2097152 + low_za2(f) + 0b010 * 1024 + f.offset / 2 % 4
+    0b11000001111 * BIT_21 + low_za2(f) + 0b010 * BIT_10 + f.offset / 2 % 4
 }
 
 fn word_e4(f: Fields) -> u32
     ensures { λ r. ⌜ r ≡ build rowE4 (valuesE f 4 8) ⌝ }
 {
-    0b11000001111 * 2097152 + low_za4(f) + 0b010 * 1024 + f.offset / 2 % 4
+    0b11000001111 * BIT_21 + low_za4(f) + 0b010 * BIT_10 + f.offset / 2 % 4
 }
 
 // The only word that can have the fields.

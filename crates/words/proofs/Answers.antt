@@ -13,9 +13,10 @@ use Rattle.settings.specs.Refused.{refusalNumber}
 use Rattle.settings.specs.declared.Settings.{Settings}
 use Rattle.settings.specs.declared.Refusal.{Refusal}
 use Rattle.settings.proofs.Refusals.{refusal-known, refusal-not-0}
-use Rattle.words.specs.Says.{describe}
+use Rattle.words.specs.Says.{table, describe}
 use Rattle.words.specs.Decode.{enables, noFields, decodedSays, enabledOnly, decodeEnabled, decodePaper}
-use Rattle.words.specs.Partner.{partnerWord, turned, signOf, isC, partneredSays, partnerAfter, partnerPaper, partnerIn}
+use Rattle.words.specs.Partner.{partnerWord, turned, isC, partneredSays, partnerAfter, partnerPaper}
+use Rattle.words.specs.Sign.{signOf, partnerIn}
 use Rattle.words.specs.declared.Family.{Family}
 use Rattle.words.specs.declared.Family.the-variants.{ByElement, Vector, Saturating, LongLong, Long}
 use Rattle.words.specs.declared.Fields.{Fields}
@@ -25,6 +26,7 @@ use Rattle.words.specs.declared.Decoded.{Decoded}
 use Rattle.words.specs.declared.Decoded.the-variants.{Word, Refused}
 use Rattle.words.specs.declared.Partnered as partnered
 use Rattle.words.specs.declared.Partnered.the-variants.{Word as Partner, Refused as NotPartnered}
+use Rattle.words.proofs.Table.{SaidBy, described-exactly}
 use Rattle.words.proofs.Partners.{partner-turned, partner-back, partner-sign}
 
 -- ---- each answer is determined by its promise
@@ -81,6 +83,13 @@ accepted-decode s w f a = rw (a .valid, a .says, a .enabled)
 -- under valid settings a word decodes exactly when it is described and the features enable it
 pub decodes-exactly : (s : Settings) (w : ℕ) (f : Fields) → (decodePaper s w ≡ (0, f)) ↔ Accepted s w f
 decodes-exactly s w f = (decode-accepted s w f, accepted-decode s w f)
+
+-- demand 2: under valid settings a word decodes exactly when a row matches, its size is not reserved and the features enable it
+pub decodes-when : (s : Settings) (w : ℕ) (f : Fields) → validSettings s ≡ true → (decodePaper s w ≡ (0, f)) ↔ (SaidBy table w f × (enables (s .features .0) f ≡ true))
+decodes-when s w f v = (
+  λ e. let a = decode-accepted s w f e in (described-exactly w f .0 (a .says), a .enabled),
+  λ a. accepted-decode s w f (record { valid = v; says = described-exactly w f .1 (a .0); enabled = a .1 }),
+)
 
 -- ---- its partner
 

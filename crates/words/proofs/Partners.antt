@@ -13,7 +13,8 @@ use Rattle.layouts.specs.Layout.{Layout, matches, flip, maskOf}
 use Rattle.layouts.proofs.Apart.{apartFrom, allApart}
 use Rattle.layouts.proofs.Flipped.{matches-kept}
 use Rattle.words.specs.Says.{Row, table, saysOf, saysFirst, describe}
-use Rattle.words.specs.Partner.{flipFirst, partnerWord, turned, signOf}
+use Rattle.words.specs.Partner.{flipFirst, partnerWord, turned}
+use Rattle.words.specs.Sign.{signOf}
 use Rattle.words.specs.declared.Family.{Family}
 use Rattle.words.specs.declared.Family.the-variants.{ByElement, Vector, Saturating, LongLong, Long}
 use Rattle.words.specs.declared.Fields.{Fields}

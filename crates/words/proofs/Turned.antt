@@ -12,7 +12,8 @@ use Rattle.layouts.proofs.Flipped.{spares, matches-kept, flipEach, flipped-agre
 use Rattle.layouts.proofs.Inverse.{Agrees}
 use Rattle.words.specs.Rows.{rowA, rowB, rowC16, rowC32, rowD2, rowD4, rowE2, rowE4}
 use Rattle.words.specs.Says.{Row, table, entryA, entryB, entry, fieldsA16, fieldsA32, fieldsA, fieldsB, fieldsC, fieldsD, fieldsE, isOne}
-use Rattle.words.specs.Partner.{turned, signOf}
+use Rattle.words.specs.Partner.{turned}
+use Rattle.words.specs.Sign.{signOf}
 use Rattle.words.specs.declared.Fields.{Fields}
 
 -- a flipped bit

@@ -2,3 +2,4 @@ pub mod Rows
 pub mod Says
 pub mod Decode
 pub mod Partner
+pub mod Sign

@@ -2,7 +2,6 @@
 use Prim.Native.Nat.{ℕ}
 use mathlib.Core.Bool.{Bool, true, false, not, cond}
 use mathlib.Core.List.{List, [], _∷_}
-use lib.Bits.{bitXor}
 use lib.Dec.{eqb}
 use Rattle.layouts.specs.Layout.{matches, flip}
 use Rattle.settings.specs.Refused.{refusalNumber}
@@ -61,16 +60,3 @@ partnerAfter d w = cond (eqb (d .0) 0) (cond (isC (d .1 .family)) (6, 0) (0, par
 -- partner tests 1, 3, 6
 unfoldable pub partnerPaper : Settings → ℕ → ℕ × ℕ
 partnerPaper s w = partnerAfter (decodePaper s w) w
-
--- ---- for the code: S by the family, as the rows have it
-
--- the word that has only S set
-abbrev pub signOf : Family → ℕ
-signOf ByElement = 16384
-signOf Vector = 8192
-signOf Saturating = 4096
-signOf LongLong = 8
-signOf Long = 8
-
-abbrev pub partnerIn : Family → ℕ → ℕ × ℕ
-partnerIn family w = cond (isC family) (6, 0) (0, bitXor w (signOf family))

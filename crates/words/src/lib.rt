@@ -4,7 +4,9 @@ ghost use Rattle.layouts.specs.Layout.{matches, flip};
 ghost use Rattle.words.specs.Rows.{rowA, rowB, rowC16, rowC32, rowD2, rowD4, rowE2, rowE4};
 ghost use Rattle.words.specs.Says.{byElement, fieldsA16, fieldsA32, vector, saturating, fieldsC, intoZa, fieldsD, fieldsE, entryA, entryB, tableZa, saysOf, saysFirst, describe as describePaper};
 ghost use Rattle.words.specs.Decode.{enables as enablesPaper, decodedSays, decodeEnabled, decodePaper};
-ghost use Rattle.words.specs.Partner.{partnerIn, partneredSays, partnerPaper};
+ghost use Rattle.words.specs.Partner.{partneredSays, partnerPaper};
+ghost use Rattle.words.specs.Sign.{partnerIn};
+use layouts::*;
 use settings::Features;
 use settings::Refusal;
 use settings::Settings;
@@ -63,82 +65,82 @@ pub enum Partnered {
 fn is_a(w: u32) -> bool
     ensures { λ r. ⌜ r ≡ matches rowA w ⌝ }
 {
-    (w / 2147483648 % 2 == 0)
-        & (w / 16777216 % 32 == 0b01111)
-        & (w / 32768 % 2 == 0)
-        & (w / 4096 % 4 == 0b10)
-        & (w / 1024 % 2 == 0)
+    (w / BIT_31 % 2 == 0)
+        & (w / BIT_24 % 32 == 0b01111)
+        & (w / BIT_15 % 2 == 0)
+        & (w / BIT_12 % 4 == 0b10)
+        & (w / BIT_10 % 2 == 0)
 }
 
 // 0 Q U 01110 ss 1 mmmmm 1 0 S 0 0 0 nnnnn ddddd
 fn is_b(w: u32) -> bool
     ensures { λ r. ⌜ r ≡ matches rowB w ⌝ }
 {
-    (w / 2147483648 % 2 == 0)
-        & (w / 16777216 % 32 == 0b01110)
-        & (w / 2097152 % 2 == 1)
-        & (w / 16384 % 4 == 0b10)
-        & (w / 1024 % 8 == 0b000)
+    (w / BIT_31 % 2 == 0)
+        & (w / BIT_24 % 32 == 0b01110)
+        & (w / BIT_21 % 2 == 1)
+        & (w / BIT_14 % 4 == 0b10)
+        & (w / BIT_10 % 8 == 0b000)
 }
 
 // 01000100 10 1 ii mmm 001 S i T nnnnn ddddd
 fn is_c16(w: u32) -> bool
     ensures { λ r. ⌜ r ≡ matches rowC16 w ⌝ }
 {
-    (w / 2097152 % 2048 == 0b01000100101) & (w / 8192 % 8 == 0b001)
+    (w / BIT_21 % 2048 == 0b01000100101) & (w / BIT_13 % 8 == 0b001)
 }
 
 // 01000100 11 1 i mmmm 001 S i T nnnnn ddddd
 fn is_c32(w: u32) -> bool
     ensures { λ r. ⌜ r ≡ matches rowC32 w ⌝ }
 {
-    (w / 2097152 % 2048 == 0b01000100111) & (w / 8192 % 8 == 0b001)
+    (w / BIT_21 % 2048 == 0b01000100111) & (w / BIT_13 % 8 == 0b001)
 }
 
 // 110000011 z 1 mmmm 0 0 vv 000 nnnn 0 U S 0 0 o
 fn is_d2(w: u32) -> bool
     ensures { λ r. ⌜ r ≡ matches rowD2 w ⌝ }
 {
-    (w / 8388608 % 512 == 0b110000011)
-        & (w / 2097152 % 2 == 1)
-        & (w / 32768 % 4 == 0b00)
-        & (w / 1024 % 8 == 0b000)
-        & (w / 32 % 2 == 0)
-        & (w / 2 % 4 == 0b00)
+    (w / BIT_23 % 512 == 0b110000011)
+        & (w / BIT_21 % 2 == 1)
+        & (w / BIT_15 % 4 == 0b00)
+        & (w / BIT_10 % 8 == 0b000)
+        & (w / BIT_5 % 2 == 0)
+        & (w / BIT_1 % 4 == 0b00)
 }
 
 // 110000011 z 1 mmm 0 1 0 vv 000 nnn 0 0 U S 0 0 o
 fn is_d4(w: u32) -> bool
     ensures { λ r. ⌜ r ≡ matches rowD4 w ⌝ }
 {
-    (w / 8388608 % 512 == 0b110000011)
-        & (w / 2097152 % 2 == 1)
-        & (w / 32768 % 8 == 0b010)
-        & (w / 1024 % 8 == 0b000)
-        & (w / 32 % 4 == 0b00)
-        & (w / 2 % 4 == 0b00)
+    (w / BIT_23 % 512 == 0b110000011)
+        & (w / BIT_21 % 2 == 1)
+        & (w / BIT_15 % 8 == 0b010)
+        & (w / BIT_10 % 8 == 0b000)
+        & (w / BIT_5 % 4 == 0b00)
+        & (w / BIT_1 % 4 == 0b00)
 }
 
 // 110000011 1 1 mmmm 0 0 vv 010 nnnn 0 U S 0 oo
 fn is_e2(w: u32) -> bool
     ensures { λ r. ⌜ r ≡ matches rowE2 w ⌝ }
 {
-    (w / 2097152 % 2048 == 0b11000001111)
-        & (w / 32768 % 4 == 0b00)
-        & (w / 1024 % 8 == 0b010)
-        & (w / 32 % 2 == 0)
-        & (w / 4 % 2 == 0)
+    (w / BIT_21 % 2048 == 0b11000001111)
+        & (w / BIT_15 % 4 == 0b00)
+        & (w / BIT_10 % 8 == 0b010)
+        & (w / BIT_5 % 2 == 0)
+        & (w / BIT_2 % 2 == 0)
 }
 
 // 110000011 1 1 mmm 0 1 0 vv 010 nnn 0 0 U S 0 oo
 fn is_e4(w: u32) -> bool
     ensures { λ r. ⌜ r ≡ matches rowE4 w ⌝ }
 {
-    (w / 2097152 % 2048 == 0b11000001111)
-        & (w / 32768 % 8 == 0b010)
-        & (w / 1024 % 8 == 0b010)
-        & (w / 32 % 4 == 0b00)
-        & (w / 4 % 2 == 0)
+    (w / BIT_21 % 2048 == 0b11000001111)
+        & (w / BIT_15 % 8 == 0b010)
+        & (w / BIT_10 % 8 == 0b010)
+        & (w / BIT_5 % 4 == 0b00)
+        & (w / BIT_2 % 2 == 0)
 }
 
 fn by_element(w: u32, lane: u32, index: u32, second: u32) -> Fields
@@ -146,13 +148,13 @@ fn by_element(w: u32, lane: u32, index: u32, second: u32) -> Fields
 {
     Fields {
         family: Family::ByElement,
-        unsigned: w / 536870912 % 2 == 1,
-        subtract: w / 16384 % 2 == 1,
+        unsigned: w / BIT_29 % 2 == 1,
+        subtract: w / BIT_14 % 2 == 1,
         lane: lane,
-        part: w / 1073741824 % 2,
+        part: w / BIT_30 % 2,
         index: index,
         destination: w % 32,
-        first: w / 32 % 32,
+        first: w / BIT_5 % 32,
         second: second,
         group: 1,
         select: 0,
@@ -166,8 +168,8 @@ fn fields_a16(w: u32) -> Fields
     by_element(
         w,
         16,
-        w / 2048 % 2 * 4 + w / 2097152 % 2 * 2 + w / 1048576 % 2,
-        w / 65536 % 16,
+        w / BIT_11 % 2 * 4 + w / BIT_21 % 2 * 2 + w / BIT_20 % 2,
+        w / BIT_16 % 16,
     )
 }
 
@@ -177,8 +179,8 @@ fn fields_a32(w: u32) -> Fields
     by_element(
         w,
         32,
-        w / 2048 % 2 * 2 + w / 2097152 % 2,
-        w / 1048576 % 2 * 16 + w / 65536 % 16,
+        w / BIT_11 % 2 * 2 + w / BIT_21 % 2,
+        w / BIT_20 % 2 * 16 + w / BIT_16 % 16,
     )
 }
 
@@ -186,7 +188,7 @@ fn fields_a32(w: u32) -> Fields
 fn says_a(w: u32) -> Described
     ensures { λ r. ⌜ r ≡ saysOf entryA w ⌝ }
 {
-    let size = w / 4194304 % 4;
+    let size = w / BIT_22 % 4;
     if size == 0b01 {
         return Described::As(fields_a16(w));
     }
@@ -214,14 +216,14 @@ fn vector_fields(w: u32, lane: u32) -> Fields
 {
     Fields {
         family: Family::Vector,
-        unsigned: w / 536870912 % 2 == 1,
-        subtract: w / 8192 % 2 == 1,
+        unsigned: w / BIT_29 % 2 == 1,
+        subtract: w / BIT_13 % 2 == 1,
         lane: lane,
-        part: w / 1073741824 % 2,
+        part: w / BIT_30 % 2,
         index: 0,
         destination: w % 32,
-        first: w / 32 % 32,
-        second: w / 65536 % 32,
+        first: w / BIT_5 % 32,
+        second: w / BIT_16 % 32,
         group: 1,
         select: 0,
         offset: 0,
@@ -232,7 +234,7 @@ fn vector_fields(w: u32, lane: u32) -> Fields
 fn says_b(w: u32) -> Described
     ensures { λ r. ⌜ r ≡ saysOf entryB w ⌝ }
 {
-    let size = w / 4194304 % 4;
+    let size = w / BIT_22 % 4;
     if size == 0b11 {
         return Described::Nothing;
     }
@@ -245,12 +247,12 @@ fn saturating_fields(w: u32, lane: u32, index: u32, second: u32) -> Fields
     Fields {
         family: Family::Saturating,
         unsigned: false,
-        subtract: w / 4096 % 2 == 1,
+        subtract: w / BIT_12 % 2 == 1,
         lane: lane,
-        part: w / 1024 % 2,
+        part: w / BIT_10 % 2,
         index: index,
         destination: w % 32,
-        first: w / 32 % 32,
+        first: w / BIT_5 % 32,
         second: second,
         group: 1,
         select: 0,
@@ -261,13 +263,13 @@ fn saturating_fields(w: u32, lane: u32, index: u32, second: u32) -> Fields
 fn fields_c16(w: u32) -> Fields
     ensures { λ r. ⌜ r ≡ fieldsC rowC16 16 w ⌝ }
 {
-    saturating_fields(w, 16, w / 524288 % 4 * 2 + w / 2048 % 2, w / 65536 % 8)
+    saturating_fields(w, 16, w / BIT_19 % 4 * 2 + w / BIT_11 % 2, w / BIT_16 % 8)
 }
 
 fn fields_c32(w: u32) -> Fields
     ensures { λ r. ⌜ r ≡ fieldsC rowC32 32 w ⌝ }
 {
-    saturating_fields(w, 32, w / 1048576 % 2 * 2 + w / 2048 % 2, w / 65536 % 16)
+    saturating_fields(w, 32, w / BIT_20 % 2 * 2 + w / BIT_11 % 2, w / BIT_16 % 16)
 }
 
 // U, S and vv stand at the same bits in the four rows of D and E.
@@ -284,8 +286,8 @@ fn za_fields(
 {
     Fields {
         family: family,
-        unsigned: w / 16 % 2 == 1,
-        subtract: w / 8 % 2 == 1,
+        unsigned: w / BIT_4 % 2 == 1,
+        subtract: w / BIT_3 % 2 == 1,
         lane: lane,
         part: 0,
         index: 0,
@@ -293,7 +295,7 @@ fn za_fields(
         first: first,
         second: second,
         group: group,
-        select: 8 + w / 8192 % 4,
+        select: 8 + w / BIT_13 % 4,
         offset: offset,
     }
 }
@@ -301,13 +303,13 @@ fn za_fields(
 fn fields_d2(w: u32) -> Fields
     ensures { λ r. ⌜ r ≡ fieldsD rowD2 2 w ⌝ }
 {
-    let lane = 8 + 8 * (w / 4194304 % 2);
+    let lane = 8 + 8 * (w / BIT_22 % 2);
     za_fields(
         Family::LongLong,
         w,
         lane,
-        w / 64 % 16 * 2,
-        w / 131072 % 16 * 2,
+        w / BIT_6 % 16 * 2,
+        w / BIT_17 % 16 * 2,
         2,
         4 * (w % 2),
     )
@@ -316,13 +318,13 @@ fn fields_d2(w: u32) -> Fields
 fn fields_d4(w: u32) -> Fields
     ensures { λ r. ⌜ r ≡ fieldsD rowD4 4 w ⌝ }
 {
-    let lane = 8 + 8 * (w / 4194304 % 2);
+    let lane = 8 + 8 * (w / BIT_22 % 2);
     za_fields(
         Family::LongLong,
         w,
         lane,
-        w / 128 % 8 * 4,
-        w / 262144 % 8 * 4,
+        w / BIT_7 % 8 * 4,
+        w / BIT_18 % 8 * 4,
         4,
         4 * (w % 2),
     )
@@ -335,8 +337,8 @@ fn fields_e2(w: u32) -> Fields
         Family::Long,
         w,
         16,
-        w / 64 % 16 * 2,
-        w / 131072 % 16 * 2,
+        w / BIT_6 % 16 * 2,
+        w / BIT_17 % 16 * 2,
         2,
         2 * (w % 4),
     )
@@ -349,8 +351,8 @@ fn fields_e4(w: u32) -> Fields
         Family::Long,
         w,
         16,
-        w / 128 % 8 * 4,
-        w / 262144 % 8 * 4,
+        w / BIT_7 % 8 * 4,
+        w / BIT_18 % 8 * 4,
         4,
         2 * (w % 4),
     )
@@ -444,11 +446,11 @@ fn partner_in(family: Family, word: u32) -> Partnered
     ensures { λ r. ⌜ partneredSays r ≡ partnerIn family word ⌝ }
 {
     match family {
-        Family::ByElement => Partnered::Word(word ^ 16384),
-        Family::Vector => Partnered::Word(word ^ 8192),
+        Family::ByElement => Partnered::Word(word ^ BIT_14),
+        Family::Vector => Partnered::Word(word ^ BIT_13),
         Family::Saturating => Partnered::Refused(Refusal::NoPartner),
-        Family::LongLong => Partnered::Word(word ^ 8),
-        Family::Long => Partnered::Word(word ^ 8),
+        Family::LongLong => Partnered::Word(word ^ BIT_3),
+        Family::Long => Partnered::Word(word ^ BIT_3),
     }
 }
 
