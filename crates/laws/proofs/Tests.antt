@@ -25,13 +25,6 @@ pub by-cond : {A : Type 0} {P : Type 0} (b : Bool) (x y t : A) → (b ≡ true �
 by-cond true x y t k l h = k refl h
 by-cond false x y t k l h = l refl h
 
--- a choice by a call's result r, of which the callee ensures what it is
-pub cond-yes : {A : Type 0} (r b : Bool) (x y t : A) → r ≡ b → r ≡ true → t ≡ x → t ≡ cond b x y
-cond-yes r b x y t e h p = rw (← e, h) p
-
-pub cond-no : {A : Type 0} (r b : Bool) (x y t : A) → r ≡ b → r ≡ false → t ≡ y → t ≡ cond b x y
-cond-no r b x y t e h p = rw (← e, h) p
-
 -- a choice by a comparison of two numbers
 pub cond-eq : {A : Type 0} (m n : ℕ) (x y t : A) → m ≡ n → t ≡ x → t ≡ cond (eqb m n) x y
 cond-eq m n x y t h p = rw (eq-eqb m n h) p

@@ -1,16 +1,14 @@
 -- Two layouts that fix some bit differently have no word in common. Whether they do is computed from the layouts. Assumes nothing.
-use Prim.Native.Nat.{ℕ, zero, suc, _+_, _-_, _*_, _/_, _%_, _^_, _<_, _≤_}
-use native.Mathlib.Nat.{sub-add-cancel, add-comm}
+use Prim.Native.Nat.{ℕ, zero, suc, _+_, _-_, _/_, _%_, _^_, _<_, _≤_}
 use native.Mathlib.Omega.{arith}
-use mathlib.Core.Path.{_≡_, refl, sym, ap, ap₂, _∙_}
+use mathlib.Core.Path.{_≡_, refl, sym, ap, _∙_}
 use mathlib.Core.List.{List, [], _∷_}
 use mathlib.Core.Bool.{Bool, true, false, not, _&&_, _||_, cond}
-use mathlib.Core.Logic.{⊎-elim}
 use lib.Dec.{eqb, leb, ltb}
 use lib.Pow.{shr-shr, field as shr-of-mod, mod-mod-pow}
-use borrow.Author.Tests.{eqb-true, eqb-false, leb-true, ltb-true, not-true, eq-eqb}
+use borrow.Author.Tests.{eqb-true, eqb-false, leb-true, ltb-true, not-true}
 use Rattle.laws.proofs.Tests.{both, either, never-both, cond-holds}
-use Rattle.layouts.specs.Layout.{Layout, Segment, bits, field, width, size, part, matchesToo, matches}
+use Rattle.layouts.specs.Layout.{Layout, bits, field, size, part, matches}
 use Rattle.layouts.proofs.Inverse.{part-is, matched}
 
 -- what the layout fixes at bit p: 0 or 1, or 2 where it fixes nothing

@@ -2,12 +2,12 @@
 use Prim.Native.Nat.{ℕ, zero, suc, _/_, _%_, _^_}
 use mathlib.Core.Path.{_≡_, refl, sym, ap, ap₂, _∙_}
 use mathlib.Core.List.{List, [], _∷_}
-use mathlib.Core.Bool.{Bool, true, false, _&&_}
+use mathlib.Core.Bool.{Bool, true, _&&_}
 use lib.Dec.{eqb}
 use lib.Bits.{bitXor, xor-shr, xor-mod, xor-zero-r}
 use borrow.Author.Tests.{eqb-true}
 use Rattle.laws.proofs.Tests.{both}
-use Rattle.layouts.specs.Layout.{Layout, Segment, bits, field, width, size, part, matchesToo, matches, parts}
+use Rattle.layouts.specs.Layout.{Layout, bits, field, size, part, matchesToo, matches, parts}
 use Rattle.layouts.proofs.Inverse.{part-is, Agrees}
 
 part-flip : (w m p k : ℕ) → part (bitXor w m) p k ≡ bitXor (part w p k) (part m p k)

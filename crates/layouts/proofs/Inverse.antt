@@ -4,13 +4,13 @@ use native.Mathlib.Nat.{mod-one, div-one, mod-eq-of-lt, add-mul, mul-assoc, add-
 use native.Mathlib.Omega.{arith}
 use mathlib.Core.Path.{_≡_, refl, sym, ap, ap₂, _∙_}
 use mathlib.Core.List.{List, [], _∷_}
-use mathlib.Core.Bool.{Bool, true, false, _&&_}
+use mathlib.Core.Bool.{Bool, true, _&&_}
 use lib.Dec.{eqb}
 use lib.Pow.{mod-pow-add, pow-add, high, low}
 use lib.Arith.{digits-lt}
 use borrow.Author.Tests.{eqb-true, eq-eqb}
 use Rattle.laws.proofs.Tests.{both}
-use Rattle.layouts.specs.Layout.{Layout, Segment, bits, field, width, size, part, matchesToo, matches, parts, build}
+use Rattle.layouts.specs.Layout.{Layout, bits, field, size, part, matchesToo, matches, parts, build}
 
 -- the values are those of the word
 abbrev pub Agrees : Layout → List ℕ → ℕ → Type 0

@@ -1,9 +1,9 @@
 -- The rules run: which sums are valid.
 use Prim.Native.Nat.{ℕ, zero, suc}
 use mathlib.Core.Path.{_≡_, refl}
-use mathlib.Core.Bool.{Bool, true, false, cond}
+use mathlib.Core.Bool.{Bool, cond}
 use mathlib.Core.List.{List, [], _∷_, _++_}
-use Rattle.settings.specs.Valid.{validLength, validFeatures, validModes, validSettings}
+use Rattle.settings.specs.Valid.{validLength, validFeatures, validModes}
 
 -- the numbers below n that pass
 abbrev passing : (ℕ → Bool) → ℕ → List ℕ

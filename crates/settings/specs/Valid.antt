@@ -1,5 +1,5 @@
 -- Document 01, "Machine and settings": which settings are valid, and the lengths that follow from them.
-use Prim.Native.Nat.{ℕ, _*_, _/_}
+use Prim.Native.Nat.{ℕ, _/_}
 use mathlib.Core.Bool.{Bool, not, _&&_, _||_}
 use lib.Dec.{eqb, ltb}
 use Rattle.settings.specs.Sets.{hasFeatures, sme, sme2, i16i64, hasModes, sm, za}

@@ -1,5 +1,5 @@
 ghost use mathlib.Core.Path.{_≡_};
-ghost use Prim.Native.Nat.{_+_, _-_, _≤_, _<_};
+ghost use Prim.Native.Nat.{_-_, _≤_, _<_};
 ghost use lib.ListN.{getD};
 ghost use Rattle.settings.specs.Sets.{hasFeatures, hasModes};
 ghost use Rattle.settings.specs.Valid.{validLength, validFeatures, validModes, validSettings, vectorBytes, arrayBytes};

@@ -1,11 +1,9 @@
 -- What the promises of decode and partner determine, and what callers take from them. Assumes nothing.
-use Prim.Native.Nat.{ℕ, _<_, _^_}
+use Prim.Native.Nat.{ℕ, _<_}
 use native.Mathlib.Omega.{arith}
 use mathlib.Core.Path.{_≡_, refl, sym, ap, _∙_, subst}
 use mathlib.Core.Logic.{_↔_}
-use mathlib.Core.Bool.{Bool, true, false, cond}
-use lib.Bits.{bitXor, xor-lt}
-use lib.Dec.{eqb}
+use mathlib.Core.Bool.{true, false}
 use borrow.Author.Tests.{ne-eqb}
 use Rattle.laws.proofs.Tests.{by-cond}
 use Rattle.settings.specs.Valid.{validSettings}
@@ -15,10 +13,8 @@ use Rattle.settings.specs.declared.Refusal.{Refusal}
 use Rattle.settings.proofs.Refusals.{refusal-known, refusal-not-0}
 use Rattle.words.specs.Says.{table, describe}
 use Rattle.words.specs.Decode.{enables, noFields, decodedSays, enabledOnly, decodeEnabled, decodePaper}
-use Rattle.words.specs.Partner.{partnerWord, turned, isC, partneredSays, partnerAfter, partnerPaper}
-use Rattle.words.specs.Sign.{signOf, partnerIn}
-use Rattle.words.specs.declared.Family.{Family}
-use Rattle.words.specs.declared.Family.the-variants.{ByElement, Vector, Saturating, LongLong, Long}
+use Rattle.words.specs.Partner.{partnerWord, turned, isC, partneredSays, partnerPaper}
+use Rattle.words.specs.Sign.{partnerIn}
 use Rattle.words.specs.declared.Fields.{Fields}
 use Rattle.words.specs.declared.Described.{Described}
 use Rattle.words.specs.declared.Described.the-variants.{As, Nothing}

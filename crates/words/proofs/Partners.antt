@@ -4,12 +4,12 @@ use Prim.Native.Nat.{ℕ, _<_, _^_}
 use Prim.Native.Char.{code}
 use mathlib.Core.Path.{_≡_, refl, sym, ap, _∙_, subst}
 use mathlib.Core.List.{List, [], _∷_, List·Memᴰ, List·Memᴰ·head, List·Memᴰ·tail}
-use mathlib.Core.Bool.{Bool, true, false, cond}
+use mathlib.Core.Bool.{true, false}
 use lib.Bits.{bitXor, xor-lt}
 use lib.Dec.{lit<}
 use Rattle.laws.proofs.Tests.{both, failed, by-cond}
 use Rattle.laws.proofs.Bits.{xor-twice}
-use Rattle.layouts.specs.Layout.{Layout, matches, flip, maskOf}
+use Rattle.layouts.specs.Layout.{matches, flip, maskOf}
 use Rattle.layouts.proofs.Apart.{apartFrom, allApart}
 use Rattle.layouts.proofs.Flipped.{matches-kept}
 use Rattle.words.specs.Says.{Row, table, saysOf, saysFirst, describe}

@@ -5,13 +5,12 @@ use native.Mathlib.Omega.{arith}
 use mathlib.Core.Path.{_≡_, refl, sym, ap, _∙_, subst}
 use mathlib.Core.List.{List, [], _∷_, map, List·Memᴰ, List·Memᴰ·head, List·Memᴰ·tail, List·Memᴰ·not-nil, List·Memᴰ·cases-cons}
 use mathlib.Core.Logic.{⊎-elim, _↔_}
-use mathlib.Core.Bool.{Bool, true, false, _&&_, cond}
+use mathlib.Core.Bool.{true, false}
 use Rattle.laws.proofs.Tests.{both, failed, by-cond}
 use Rattle.layouts.specs.Layout.{Layout, size, matches}
 use Rattle.layouts.proofs.Apart.{apart, apartFrom, allApart, no-word-in-both}
 use Rattle.words.specs.Says.{Row, table, saysOf, saysFirst, describe}
 use Rattle.words.specs.declared.Fields.{Fields}
-use Rattle.words.specs.declared.Described.{Described}
 use Rattle.words.specs.declared.Described.the-variants.{As, Nothing}
 
 abbrev pub layouts : List Row → List Layout

@@ -1,17 +1,16 @@
 -- Flipping S flips `subtract` and nothing else: of each row, from the text of its layout. Assumes nothing.
 use Prim.Native.Nat.{ℕ, zero, suc, _/_, _%_, _<_}
 use native.Mathlib.Omega.{arith}
-use mathlib.Core.Path.{_≡_, refl, sym, ap, _∙_}
+use mathlib.Core.Path.{_≡_, refl, sym, ap}
 use mathlib.Core.List.{List, [], _∷_}
 use mathlib.Core.Bool.{Bool, true, false, not, cond}
 use lib.Dec.{eqb}
 use lib.Bits.{bitXor}
 use Prim.Native.Char.{code}
-use Rattle.layouts.specs.Layout.{Layout, matches, flip, maskOf, parts}
-use Rattle.layouts.proofs.Flipped.{spares, matches-kept, flipEach, flipped-agrees}
-use Rattle.layouts.proofs.Inverse.{Agrees}
+use Rattle.layouts.specs.Layout.{flip, maskOf}
+use Rattle.layouts.proofs.Flipped.{spares, flipped-agrees}
 use Rattle.words.specs.Rows.{rowA, rowB, rowC16, rowC32, rowD2, rowD4, rowE2, rowE4}
-use Rattle.words.specs.Says.{Row, table, entryA, entryB, entry, fieldsA16, fieldsA32, fieldsA, fieldsB, fieldsC, fieldsD, fieldsE, isOne}
+use Rattle.words.specs.Says.{Row, table, fieldsA16, fieldsA32, fieldsA, fieldsB, fieldsC, fieldsD, fieldsE, isOne}
 use Rattle.words.specs.Partner.{turned}
 use Rattle.words.specs.Sign.{signOf}
 use Rattle.words.specs.declared.Fields.{Fields}

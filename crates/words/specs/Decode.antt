@@ -1,6 +1,6 @@
 -- Document 01, "Features", and what decode answers.
 use Prim.Native.Nat.{ℕ}
-use mathlib.Core.Bool.{Bool, true, false, _&&_, _||_, cond}
+use mathlib.Core.Bool.{Bool, false, _&&_, _||_, cond}
 use lib.Dec.{eqb}
 use Rattle.settings.specs.Sets.{hasFeatures, advSimd, sve2, sme, sme2, i16i64}
 use Rattle.settings.specs.Valid.{validSettings}

@@ -1,6 +1,6 @@
 -- Document 01, below the layouts: what a word of each row says, and which sizes are reserved.
-use Prim.Native.Nat.{ℕ, _+_, _*_, _/_, _%_, _^_}
-use mathlib.Core.Bool.{Bool, true, false, not, _||_, cond}
+use Prim.Native.Nat.{ℕ, _+_, _*_, _^_}
+use mathlib.Core.Bool.{Bool, false, not, _||_, cond}
 use mathlib.Core.List.{List, [], _∷_}
 use lib.Dec.{eqb}
 use Rattle.layouts.specs.Layout.{Layout, matches, value}

@@ -1,3 +1,4 @@
+-- `encoding::candidate` meets its contract, family by family. Assumes nothing.
 use borrow.Author.Needs.{needs}
 use Rattle.laws.proofs.Tests.{by-numbers}
 use Rattle.encoding.proofs.candidate.Statement.{statement}

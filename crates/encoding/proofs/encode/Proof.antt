@@ -1,3 +1,4 @@
+-- `encoding::encode` meets its contract: each return is one case of `Encodes`. Assumes nothing.
 use borrow.Author.Needs.{needs}
 use mathlib.Core.Path.{sym, _∙_}
 use Rattle.encoding.specs.Encode.{bad-settings, no-word, not-enabled, a-word}

@@ -1,3 +1,4 @@
+-- `encoding::has` meets its contract: what `describe` and `same` ensure. Assumes nothing.
 use borrow.Author.Needs.{needs}
 use Rattle.encoding.proofs.has.Statement.{statement}
 use Rattle.encoding.proofs.has.Tie as tie

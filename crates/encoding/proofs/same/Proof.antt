@@ -1,3 +1,4 @@
+-- `encoding::same` meets its contract: its last test is what `same_family` ensures. Assumes nothing.
 use borrow.Author.Needs.{needs}
 use Rattle.encoding.proofs.same.Statement.{statement}
 use Rattle.encoding.proofs.same.Tie as tie

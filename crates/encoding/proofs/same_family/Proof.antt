@@ -1,3 +1,4 @@
+-- `encoding::same_family` meets its contract: families are compared by their numbers. Assumes nothing.
 use borrow.Author.Needs.{needs}
 use Rattle.encoding.proofs.same_family.Statement.{statement}
 use Rattle.encoding.proofs.same_family.Tie as tie

@@ -1,3 +1,4 @@
+-- `settings::valid_features` meets its contract: each test is what `contains` ensures. Assumes nothing.
 use borrow.Author.Needs.{needs}
 use Rattle.settings.proofs.valid_features.Statement.{statement}
 use Rattle.settings.proofs.valid_features.Tie as tie

@@ -1,3 +1,4 @@
+-- `settings::valid_modes` meets its contract: each test is what `contains` ensures. Assumes nothing.
 use borrow.Author.Needs.{needs}
 use Rattle.settings.proofs.valid_modes.Statement.{statement}
 use Rattle.settings.proofs.valid_modes.Tie as tie

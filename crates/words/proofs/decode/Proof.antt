@@ -1,5 +1,6 @@
-use Rattle.words.specs.Decode.{decodePaper}
+-- `words::decode` meets its contract: the settings' test, then `decode_enabled`. Assumes nothing.
 use borrow.Author.Needs.{needs}
+use Rattle.words.specs.Decode.{decodePaper}
 use Rattle.words.proofs.decode.Statement.{statement}
 use Rattle.words.proofs.decode.Tie as tie
 

@@ -1,5 +1,6 @@
-use Rattle.words.specs.Decode.{decodeEnabled}
+-- `words::decode_enabled` meets its contract: what `describe` and `enables` ensure, put into the definition. Assumes nothing.
 use borrow.Author.Needs.{needs}
+use Rattle.words.specs.Decode.{decodeEnabled}
 use Rattle.words.proofs.decode_enabled.Statement.{statement}
 use Rattle.words.proofs.decode_enabled.Tie as tie
 

@@ -1,7 +1,8 @@
-use Rattle.words.specs.declared.Described.the-variants.{As}
-use Rattle.words.specs.Says.{describe}
+-- `words::describe` meets its contract: each return goes by the rows that did not match and the one that did. Assumes nothing.
 use mathlib.Core.Path.{ap}
 use borrow.Author.Needs.{needs}
+use Rattle.words.specs.declared.Described.the-variants.{As}
+use Rattle.words.specs.Says.{describe}
 use Rattle.words.proofs.describe.Statement.{statement}
 use Rattle.words.proofs.describe.Tie as tie
 

@@ -1,5 +1,6 @@
-use Rattle.words.specs.Decode.{enables}
+-- `words::enables` meets its contract, family by family. Assumes nothing.
 use borrow.Author.Needs.{needs}
+use Rattle.words.specs.Decode.{enables}
 use Rattle.words.proofs.enables.Statement.{statement}
 use Rattle.words.proofs.enables.Tie as tie
 

@@ -1,3 +1,4 @@
+-- `words::lane_b` meets its contract: three sizes are left. Assumes nothing.
 use mathlib.Core.Path.{_≡_}
 use native.Mathlib.Omega.{arith}
 use Rattle.words.proofs.lane_b.Statement.{statement}

@@ -1,8 +1,9 @@
-use Rattle.words.proofs.Answers.{partner-is, partner-refused}
-use Rattle.words.specs.Decode.{decodedSays}
-use Rattle.settings.proofs.Refusals.{refusal-not-0}
+-- `words::partner` meets its contract: what `decode` and `partner_in` ensure, by the laws of Answers.antt. Assumes nothing.
 use mathlib.Core.Path.{sym, ap, _∙_}
 use borrow.Author.Needs.{needs}
+use Rattle.words.specs.Decode.{decodedSays}
+use Rattle.settings.proofs.Refusals.{refusal-not-0}
+use Rattle.words.proofs.Answers.{partner-is, partner-refused}
 use Rattle.words.proofs.partner.Statement.{statement}
 use Rattle.words.proofs.partner.Tie as tie
 

@@ -1,3 +1,4 @@
+-- `words::partner_in` meets its contract, family by family. Assumes nothing.
 use borrow.Author.Needs.{needs}
 use Rattle.words.proofs.partner_in.Statement.{statement}
 use Rattle.words.proofs.partner_in.Tie as tie

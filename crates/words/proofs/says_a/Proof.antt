@@ -1,7 +1,8 @@
-use Rattle.words.specs.declared.Described.the-variants.{As}
+-- `words::says_a` meets its contract: each return goes by the size that led there. Assumes nothing.
 use borrow.Author.Tests.{ne-eqb}
 use mathlib.Core.Path.{ap}
 use borrow.Author.Needs.{needs}
+use Rattle.words.specs.declared.Described.the-variants.{As}
 use Rattle.words.proofs.says_a.Statement.{statement}
 use Rattle.words.proofs.says_a.Tie as tie
 

@@ -1,8 +1,9 @@
-use Rattle.words.specs.declared.Described.the-variants.{As}
-use Rattle.words.specs.Says.{vector}
+-- `words::says_b` meets its contract: each return goes by the size that led there. Assumes nothing.
 use borrow.Author.Tests.{ne-eqb}
 use mathlib.Core.Path.{ap, _∙_}
 use borrow.Author.Needs.{needs}
+use Rattle.words.specs.declared.Described.the-variants.{As}
+use Rattle.words.specs.Says.{vector}
 use Rattle.words.proofs.says_b.Statement.{statement}
 use Rattle.words.proofs.says_b.Tie as tie
 

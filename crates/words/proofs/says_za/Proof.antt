@@ -1,6 +1,7 @@
-use Rattle.words.specs.declared.Described.the-variants.{As}
+-- `words::says_za` meets its contract: each return goes by the rows that did not match and the one that did. Assumes nothing.
 use mathlib.Core.Path.{ap}
 use borrow.Author.Needs.{needs}
+use Rattle.words.specs.declared.Described.the-variants.{As}
 use Rattle.words.proofs.says_za.Statement.{statement}
 use Rattle.words.proofs.says_za.Tie as tie
 

@@ -1,3 +1,4 @@
+-- `Settings::array_bytes` is the definition. Assumes nothing.
 use mathlib.Core.Path.{refl}
 use Rattle.settings.specs.Valid.{arrayBytes}
 use Rattle.settings.proofs.Settings.array_bytes.Statement.{statement}

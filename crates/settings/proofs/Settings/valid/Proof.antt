@@ -1,5 +1,6 @@
-use Rattle.settings.specs.Valid.{validSettings}
+-- `Settings::valid` meets its contract: its three tests are those of the definition. Assumes nothing.
 use borrow.Author.Needs.{needs}
+use Rattle.settings.specs.Valid.{validSettings}
 use Rattle.settings.proofs.Settings.valid.Statement.{statement}
 use Rattle.settings.proofs.Settings.valid.Tie as tie
 

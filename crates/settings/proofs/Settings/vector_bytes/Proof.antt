@@ -1,3 +1,4 @@
+-- `Settings::vector_bytes` is the definition. Assumes nothing.
 use mathlib.Core.Path.{refl}
 use Rattle.settings.specs.Valid.{vectorBytes}
 use Rattle.settings.proofs.Settings.vector_bytes.Statement.{statement}
