@@ -8,6 +8,7 @@ use mathlib.Core.List.{List, [], _∷_}
 use mathlib.Core.Bool.{true, false}
 use lib.Dec.{eqb}
 use borrow.Author.Tests.{eqb-true, eqb-false, not-false}
+use Rattle.laws.proofs.Lists.{Each}
 use Rattle.laws.proofs.Tests.{by-cond, cond-holds, either, never-both}
 use Rattle.layouts.specs.Layout.{Layout, size, matches, value, build}
 use Rattle.layouts.proofs.Inverse.{Agrees, build-agrees}
@@ -24,11 +25,7 @@ use Rattle.encoding.specs.Candidate.{bitOf, candidateOf, valuesA16, valu
 abbrev Undone : Row → ℕ → Type 0
 Undone r w = matches (r .layout) w ≡ true → r .reserved w ≡ false → candidateOf (r .fields w) ≡ w
 
-abbrev AllUndone : List Row → ℕ → Type 0
-AllUndone [] w = Unit {0}
-AllUndone (r ∷ rs) w = Undone r w × AllUndone rs w
-
-undone : (rs : List Row) (w : ℕ) (f : Fields) → AllUndone rs w → saysFirst rs w ≡ As f → candidateOf f ≡ w
+undone : (rs : List Row) (w : ℕ) (f : Fields) → Each (λ (r : Row). Undone r w) rs → saysFirst rs w ≡ As f → candidateOf f ≡ w
 undone [] w f k e = absurd (never f e)
 undone (r ∷ rs) w f k e =
     by-cond (matches (r .layout) w) _ _ _
@@ -129,7 +126,7 @@ module _ (w : ℕ) (lt : w < 2 ^ 32) where
   e4-undone : Undone (entry rowE4 (fieldsE rowE4 4)) w
   e4-undone m _ = one-row rowE4 (valuesE (fieldsE rowE4 4 w) 4 8) refl m (omega (arith, unsigned-za, subtract-za))
 
-  all-undone : AllUndone table w
+  all-undone : Each (λ (r : Row). Undone r w) table
   all-undone =
       (a-undone, (b-undone, (c16-undone, (c32-undone, (d2-undone, (d4-undone, (e2-undone, (e4-undone, tt))))))))
 

@@ -4,7 +4,7 @@ use mathlib.Core.Path.{_≡_, refl, sym, ap, _∙_}
 use native.Mathlib.Omega.{arith}
 use Rattle.laws.proofs.Tests.{never-both}
 use Rattle.settings.specs.declared.Settings.{Settings}
-use Rattle.settings.proofs.Refusals.{refusal-known, refusal-not-0}
+use Rattle.settings.proofs.Refusals.{refused-not-0, refused-known}
 use Rattle.words.specs.Says.{describe}
 use Rattle.words.specs.Decode.{decodePaper}
 use Rattle.words.specs.declared.Fields.{Fields}
@@ -41,9 +41,9 @@ encodes-unique s f a b (a-word _ v g _) (a-word _ w h _) = ap (λ (x : ℕ). (0,
 -- the answer is known by its number and its word
 says-known : (r q : Encoded) → encodedSays r ≡ encodedSays q → r ≡ q
 says-known (Word v) (Word w) e = ap Word (ap (λ (a : ℕ × ℕ). a .1) e)
-says-known (Word v) (Refused q) e = absurd (omega (arith, refusal-not-0 q, ap (λ (a : ℕ × ℕ). a .0) e))
-says-known (Refused r) (Word w) e = absurd (omega (arith, refusal-not-0 r, ap (λ (a : ℕ × ℕ). a .0) e))
-says-known (Refused r) (Refused q) e = ap Refused (refusal-known r q (ap (λ (a : ℕ × ℕ). a .0) e))
+says-known (Word v) (Refused q) e = absurd (refused-not-0 {A = ℕ} q 0 v (sym e))
+says-known (Refused r) (Word w) e = absurd (refused-not-0 {A = ℕ} r 0 w e)
+says-known (Refused r) (Refused q) e = ap Refused (refused-known {A = ℕ} r q 0 0 e)
 
 -- any two answers that encode's promise allows are equal
 pub encode-unique : (s : Settings) (f : Fields) (r q : Encoded) → Encodes s f (encodedSays r) → Encodes s f (encodedSays q) → r ≡ q

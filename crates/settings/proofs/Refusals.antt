@@ -26,3 +26,11 @@ refusal-not-0 BadSettings = omega arith
 refusal-not-0 UnknownWord = omega arith
 refusal-not-0 NoSuchWord = omega arith
 refusal-not-0 NoPartner = omega arith
+
+-- every answer says a number and values: a refusal does not say the number 0
+pub refused-not-0 : {A : Type 0} (r : Refusal) (x y : A) → _≡_ {A = ℕ × A} (refusalNumber r, x) (0, y) → ⊥
+refused-not-0 {A} r x y e = let n : refusalNumber r ≡ 0 = ap (λ (p : ℕ × A). p .0) e in omega (arith, refusal-not-0 r)
+
+-- and two refusals that say the same are the same
+pub refused-known : {A : Type 0} (r q : Refusal) (x y : A) → _≡_ {A = ℕ × A} (refusalNumber r, x) (refusalNumber q, y) → r ≡ q
+refused-known {A} r q x y e = refusal-known r q (ap (λ (p : ℕ × A). p .0) e)

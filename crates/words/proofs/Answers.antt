@@ -7,10 +7,8 @@ use mathlib.Core.Bool.{true, false}
 use borrow.Author.Tests.{ne-eqb}
 use Rattle.laws.proofs.Tests.{by-cond}
 use Rattle.settings.specs.Valid.{validSettings}
-use Rattle.settings.specs.Refused.{refusalNumber}
 use Rattle.settings.specs.declared.Settings.{Settings}
-use Rattle.settings.specs.declared.Refusal.{Refusal}
-use Rattle.settings.proofs.Refusals.{refusal-known, refusal-not-0}
+use Rattle.settings.proofs.Refusals.{refused-not-0, refused-known}
 use Rattle.words.specs.Says.{table, describe}
 use Rattle.words.specs.Decode.{enables, noFields, decodedSays, enabledOnly, decodeEnabled, decodePaper}
 use Rattle.words.specs.Partner.{partnerWord, turned, isC, partneredSays, partnerPaper}
@@ -27,14 +25,11 @@ use Rattle.words.proofs.Partners.{partner-turned, partner-back, partner
 
 -- ---- each answer is determined by its promise
 
-said-0 : {A : Type 0} (r : Refusal) (x y : A) → _≡_ {A = ℕ × A} (refusalNumber r, x) (0, y) → ⊥
-said-0 r x y e = let n : refusalNumber r ≡ 0 = ap (λ (p : ℕ × _). p .0) e in omega (arith, refusal-not-0 r)
-
 pub decoded-known : (r q : Decoded) → decodedSays r ≡ decodedSays q → r ≡ q
 decoded-known (Word f) (Word g) e = ap Word (ap (λ (p : ℕ × Fields). p .1) e)
-decoded-known (Word f) (Refused q) e = absurd (said-0 q noFields f (sym e))
-decoded-known (Refused r) (Word g) e = absurd (said-0 r noFields g e)
-decoded-known (Refused r) (Refused q) e = ap Refused (refusal-known r q (ap (λ (p : ℕ × Fields). p .0) e))
+decoded-known (Word f) (Refused q) e = absurd (refused-not-0 q noFields f (sym e))
+decoded-known (Refused r) (Word g) e = absurd (refused-not-0 r noFields g e)
+decoded-known (Refused r) (Refused q) e = ap Refused (refused-known r q noFields noFields e)
 
 -- any two answers that decode's promise allows are equal
 pub decode-unique : (s : Settings) (w : ℕ) (r q : Decoded) → decodedSays r ≡ decodePaper s w → decodedSays q ≡ decodePaper s w → r ≡ q
@@ -42,9 +37,9 @@ decode-unique s w r q e g = decoded-known r q (e ∙ sym g)
 
 pub partnered-known : (r q : partnered.Partnered) → partneredSays r ≡ partneredSays q → r ≡ q
 partnered-known (Partner v) (Partner w) e = ap Partner (ap (λ (p : ℕ × ℕ). p .1) e)
-partnered-known (Partner v) (NotPartnered q) e = absurd (said-0 q 0 v (sym e))
-partnered-known (NotPartnered r) (Partner w) e = absurd (said-0 r 0 w e)
-partnered-known (NotPartnered r) (NotPartnered q) e = ap NotPartnered (refusal-known r q (ap (λ (p : ℕ × ℕ). p .0) e))
+partnered-known (Partner v) (NotPartnered q) e = absurd (refused-not-0 {A = ℕ} q 0 v (sym e))
+partnered-known (NotPartnered r) (Partner w) e = absurd (refused-not-0 {A = ℕ} r 0 w e)
+partnered-known (NotPartnered r) (NotPartnered q) e = ap NotPartnered (refused-known {A = ℕ} r q 0 0 e)
 
 -- any two answers that partner's promise allows are equal
 pub partner-unique : (s : Settings) (w : ℕ) (r q : partnered.Partnered) → partneredSays r ≡ partnerPaper s w → partneredSays q ≡ partnerPaper s w → r ≡ q
@@ -64,6 +59,11 @@ enabled-says features (As g) f =
     (λ t e. let h : g ≡ f = ap (λ (p : ℕ × Fields). p .1) e in (ap As h, subst (λ (x : Fields). enables features x ≡ true) h t))
     (λ _ e. let z : _≡_ {A = ℕ} 3 0 = ap (λ (p : ℕ × Fields). p .0) e in absurd (omega arith))
 enabled-says features Nothing f = λ e. let z : _≡_ {A = ℕ} 3 0 = ap (λ (p : ℕ × Fields). p .0) e in absurd (omega arith)
+
+-- decoding goes by what the word says
+pub decode-says : (features w : ℕ) {d : Described} → d ≡ describe w → decodeEnabled features w ≡ enabledOnly features d
+unfolding decodeEnabled
+decode-says features w e = ap (enabledOnly features) (sym e)
 
 decode-accepted : (s : Settings) (w : ℕ) (f : Fields) → decodePaper s w ≡ (0, f) → Accepted s w f
 unfolding decodePaper decodeEnabled

@@ -7,6 +7,7 @@ use mathlib.Core.List.{List, [], _∷_, List·Memᴰ, List·Memᴰ·head, List·
 use mathlib.Core.Bool.{true, false}
 use lib.Bits.{bitXor, xor-lt}
 use lib.Dec.{lit<}
+use Rattle.laws.proofs.Lists.{Each}
 use Rattle.laws.proofs.Tests.{both, failed, by-cond}
 use Rattle.laws.proofs.Bits.{xor-twice}
 use Rattle.layouts.specs.Layout.{matches, flip, maskOf}
@@ -20,7 +21,7 @@ use Rattle.words.specs.declared.Family.the-variants.{ByElement, Vector, 
 use Rattle.words.specs.declared.Fields.{Fields}
 use Rattle.words.specs.declared.Described.the-variants.{As, Nothing}
 use Rattle.words.proofs.Table.{layouts, table-apart, apart-from, found, never}
-use Rattle.words.proofs.Turned.{Turns, AllTurn, table-turns}
+use Rattle.words.proofs.Turned.{Turns, table-turns}
 
 -- v is a partner of w among the rows: one of them matches v, v says f turned, its partner is w, and S is where the family has it
 record Partners (rs : List Row) (w v : ℕ) (f : Fields) : Type 0 where
@@ -57,7 +58,7 @@ later r rs w v f a p =
       sign = p .sign;
     }
 
-partners : (rs : List Row) → AllTurn rs → allApart (layouts rs) ≡ true → (w : ℕ) (f : Fields) → saysFirst rs w ≡ As f → Partners rs w (flipFirst rs w) f
+partners : (rs : List Row) → Each Turns rs → allApart (layouts rs) ≡ true → (w : ℕ) (f : Fields) → saysFirst rs w ≡ As f → Partners rs w (flipFirst rs w) f
 partners [] t a w f = λ e. absurd (never f e)
 partners (r ∷ rs) t a w f =
     let b = both (apartFrom (r .layout) (layouts rs)) (allApart (layouts rs)) a in

@@ -2,11 +2,11 @@
 use Prim.Native.Nat.{ℕ, zero, suc, _/_, _%_, _<_}
 use native.Mathlib.Omega.{arith}
 use mathlib.Core.Path.{_≡_, refl, sym, ap}
-use mathlib.Core.List.{List, [], _∷_}
 use mathlib.Core.Bool.{Bool, true, false, not, cond}
 use lib.Dec.{eqb}
 use lib.Bits.{bitXor}
 use Prim.Native.Char.{code}
+use Rattle.laws.proofs.Lists.{Each}
 use Rattle.layouts.specs.Layout.{flip, maskOf}
 use Rattle.layouts.proofs.Flipped.{spares, flipped-agrees}
 use Rattle.words.specs.Rows.{rowA, rowB, rowC16, rowC32, rowD2, rowD4, rowE2, rowE4}
@@ -111,11 +111,7 @@ pub record Turns (r : Row) : Type 0 where
   pub fields-turned : (w : ℕ) → r .fields (flip (r .layout) "S" w) ≡ turned (r .fields w)
   pub sign : (w : ℕ) → maskOf (r .layout) (code "S") ≡ signOf (r .fields w .family)
 
-abbrev pub AllTurn : List Row → Type 0
-AllTurn [] = Unit {0}
-AllTurn (r ∷ rs) = Turns r × AllTurn rs
-
-pub table-turns : AllTurn table
+pub table-turns : Each Turns table
 table-turns = (
   record { spared = refl; size-kept = λ w. rw (sizeA-kept w); fields-turned = turnedA; sign = λ w. sym (signA w (eqb (w / 4194304 % 4) 1)) },
   (

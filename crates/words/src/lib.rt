@@ -143,7 +143,7 @@ fn is_e4(w: u32) -> bool
         & (w / BIT_2 % 2 == 0)
 }
 
-fn by_element(w: u32, lane: u32, index: u32, second: u32) -> Fields
+fn by_element_fields(w: u32, lane: u32, index: u32, second: u32) -> Fields
     ensures { λ r. ⌜ r ≡ byElement w lane index second ⌝ }
 {
     Fields {
@@ -165,7 +165,7 @@ fn by_element(w: u32, lane: u32, index: u32, second: u32) -> Fields
 fn fields_a16(w: u32) -> Fields
     ensures { λ r. ⌜ r ≡ fieldsA16 w ⌝ }
 {
-    by_element(
+    by_element_fields(
         w,
         16,
         w / BIT_11 % 2 * 4 + w / BIT_21 % 2 * 2 + w / BIT_20 % 2,
@@ -176,7 +176,7 @@ fn fields_a16(w: u32) -> Fields
 fn fields_a32(w: u32) -> Fields
     ensures { λ r. ⌜ r ≡ fieldsA32 w ⌝ }
 {
-    by_element(
+    by_element_fields(
         w,
         32,
         w / BIT_11 % 2 * 2 + w / BIT_21 % 2,
@@ -198,6 +198,7 @@ fn says_a(w: u32) -> Described
     Described::Nothing
 }
 
+// The lane of B, 8<<ss, of a size that is not reserved.
 fn lane_b(size: u32) -> u32
     requires { ⌜ size < 3 ⌝ }
     ensures { λ r. ⌜ r ≡ 8 * 2 ^ size ⌝ }

@@ -1,6 +1,6 @@
 -- `words::decode_enabled` meets its contract: what `describe` and `enables` ensure, put into the definition. Assumes nothing.
 use borrow.Author.Needs.{needs}
-use Rattle.words.specs.Decode.{decodeEnabled}
+use Rattle.words.proofs.Answers.{decode-says}
 use Rattle.words.proofs.decode_enabled.Statement.{statement}
 use Rattle.words.proofs.decode_enabled.Tie as tie
 
@@ -17,16 +17,19 @@ enum-told : tie.Need-enum-told
 enum-told c = search needs
 
 returns : tie.Need-returns
-unfolding decodeEnabled
-returns c = rw (← c .before .before .before .before .before .describe .ensures, c .before .before .before .described .given .1, ← c .before .enables .ensures, c .if1 .taken)
+returns c =
+    let d = c .before .before .before .before .before in
+    rw (decode-says (d .before .args .features .0) (d .before .args .word) (d .describe .ensures), c .before .before .before .described .given .1, ← c .before .enables .ensures, c .if1 .taken)
 
 returns-2 : tie.Need-returns-2
-unfolding decodeEnabled
-returns-2 c = rw (← c .before .before .before .before .before .describe .ensures, c .before .before .before .described .given .1, ← c .before .enables .ensures, c .if1 .left)
+returns-2 c =
+    let d = c .before .before .before .before .before in
+    rw (decode-says (d .before .args .features .0) (d .before .args .word) (d .describe .ensures), c .before .before .before .described .given .1, ← c .before .enables .ensures, c .if1 .left)
 
 returns-3 : tie.Need-returns-3
-unfolding decodeEnabled
-returns-3 c = rw (← c .before .before .describe .ensures, c .enum-told .given .1)
+returns-3 c =
+    let d = c .before .before in
+    rw (decode-says (d .before .args .features .0) (d .before .args .word) (d .describe .ensures), c .enum-told .given .1)
 
 pub decode-enabled-spec : {M : Type 1} → statement M
 decode-enabled-spec =
