@@ -1,0 +1,25 @@
+-- The sizes of an element.
+use Prim.Native.Nat.{ℕ}
+use Rattle.elements.specs.declared.Size.{Size}
+use Rattle.elements.specs.declared.Size.the-variants.{Bits8, Bits16, Bits32, Bits64}
+
+-- in bits
+abbrev pub bitsOf : Size → ℕ
+bitsOf Bits8 = 8
+bitsOf Bits16 = 16
+bitsOf Bits32 = 32
+bitsOf Bits64 = 64
+
+-- in bytes
+abbrev pub bytesOf : Size → ℕ
+bytesOf Bits8 = 1
+bytesOf Bits16 = 2
+bytesOf Bits32 = 4
+bytesOf Bits64 = 8
+
+-- how many there are in 64 bits
+abbrev pub perHalf : Size → ℕ
+perHalf Bits8 = 8
+perHalf Bits16 = 4
+perHalf Bits32 = 2
+perHalf Bits64 = 1
