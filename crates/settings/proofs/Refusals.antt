@@ -6,15 +6,18 @@ use native.Mathlib.Omega.{arith}
 use lib.Dec.{eqb}
 use Rattle.settings.specs.Refused.{refusalNumber}
 use Rattle.settings.specs.declared.Refusal.{Refusal}
-use Rattle.settings.specs.declared.Refusal.the-variants.{BadSettings, UnknownWord, NoSuchWord, NoPartner}
+use Rattle.settings.specs.declared.Refusal.the-variants.{BadSettings, BadLength, UnknownWord, WrongMode, NoSuchWord, NoPartner}
 
 numbered : ℕ → Refusal
-numbered n = cond (eqb n 1) BadSettings (cond (eqb n 3) UnknownWord (cond (eqb n 5) NoSuchWord NoPartner))
+numbered n =
+    cond (eqb n 1) BadSettings (cond (eqb n 2) BadLength (cond (eqb n 3) UnknownWord (cond (eqb n 4) WrongMode (cond (eqb n 5) NoSuchWord NoPartner))))
 
 numbered-back : (r : Refusal) → numbered (refusalNumber r) ≡ r
 unfolding numbered
 numbered-back BadSettings = refl
+numbered-back BadLength = refl
 numbered-back UnknownWord = refl
+numbered-back WrongMode = refl
 numbered-back NoSuchWord = refl
 numbered-back NoPartner = refl
 
@@ -23,7 +26,9 @@ refusal-known r q e = sym (numbered-back r) ∙ ap numbered e ∙ numbered-back 
 
 pub refusal-not-0 : (r : Refusal) → 0 < refusalNumber r
 refusal-not-0 BadSettings = omega arith
+refusal-not-0 BadLength = omega arith
 refusal-not-0 UnknownWord = omega arith
+refusal-not-0 WrongMode = omega arith
 refusal-not-0 NoSuchWord = omega arith
 refusal-not-0 NoPartner = omega arith
 

@@ -1,10 +1,12 @@
 -- Document 01, "Refusal numbers".
 use Prim.Native.Nat.{ℕ}
 use Rattle.settings.specs.declared.Refusal.{Refusal}
-use Rattle.settings.specs.declared.Refusal.the-variants.{BadSettings, UnknownWord, NoSuchWord, NoPartner}
+use Rattle.settings.specs.declared.Refusal.the-variants.{BadSettings, BadLength, UnknownWord, WrongMode, NoSuchWord, NoPartner}
 
 abbrev pub refusalNumber : Refusal → ℕ
 refusalNumber BadSettings = 1
+refusalNumber BadLength = 2
 refusalNumber UnknownWord = 3
+refusalNumber WrongMode = 4
 refusalNumber NoSuchWord = 5
 refusalNumber NoPartner = 6

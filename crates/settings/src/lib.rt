@@ -59,8 +59,12 @@ pub struct Settings {
 pub enum Refusal {
     // 1: VL, features or modes outside the rules.
     BadSettings,
+    // 2: the length of Z, ZA or the report is wrong.
+    BadLength,
     // 3: no layout matches, a reserved size, or a feature missing.
     UnknownWord,
+    // 4: the mode does not permit the family.
+    WrongMode,
     // 5: no word has exactly these fields.
     NoSuchWord,
     // 6: the word is of family C.
@@ -73,7 +77,9 @@ pub fn refusal_number(refusal: Refusal) -> u32
 {
     match refusal {
         Refusal::BadSettings => 1,
+        Refusal::BadLength => 2,
         Refusal::UnknownWord => 3,
+        Refusal::WrongMode => 4,
         Refusal::NoSuchWord => 5,
         Refusal::NoPartner => 6,
     }
