@@ -1,5 +1,8 @@
 ghost use mathlib.Core.Path.{_≡_};
-ghost use Rattle.elements.specs.Size.{bytesOf, perHalf};
+ghost use Prim.Native.Nat.{_+_, _%_, _^_, _<_, _≤_};
+ghost use lib.ListN.{length};
+ghost use Rattle.elements.specs.Size.{bitsOf, bytesOf, perHalf};
+ghost use Rattle.elements.specs.Elements.{elementAt, putAt};
 
 // The sizes of an element.
 pub enum Size {
@@ -30,5 +33,103 @@ pub fn per_half(size: Size) -> usize
         Size::Bits16 => 4,
         Size::Bits32 => 2,
         Size::Bits64 => 1,
+    }
+}
+
+// A byte as a wide number; with its bound, the sums and products of the reads fit.
+fn wide(x: u8) -> u64
+    ensures { λ r. ⌜ (r ≡ x) × (r < 256) ⌝ }
+{
+    x as u64
+}
+
+fn low(x: u64) -> u8
+    ensures { λ r. ⌜ r ≡ x % 256 ⌝ }
+{
+    (x % 256) as u8
+}
+
+fn read1(s: &[u8], at: usize) -> u64
+    requires { ⌜ at + 1 ≤ length (now s) ⌝ }
+    ensures { λ r. ⌜ (r ≡ elementAt 1 at (now (s .entry))) × (r < 2 ^ 8) ⌝ }
+{
+    wide(s[at])
+}
+
+fn read2(s: &[u8], at: usize) -> u64
+    requires { ⌜ at + 2 ≤ length (now s) ⌝ }
+    ensures { λ r. ⌜ (r ≡ elementAt 2 at (now (s .entry))) × (r < 2 ^ 16) ⌝ }
+{
+    wide(s[at]) + wide(s[at + 1]) * 256
+}
+
+fn read4(s: &[u8], at: usize) -> u64
+    requires { ⌜ at + 4 ≤ length (now s) ⌝ }
+    ensures { λ r. ⌜ (r ≡ elementAt 4 at (now (s .entry))) × (r < 2 ^ 32) ⌝ }
+{
+    read2(s, at) + read2(s, at + 2) * 65536
+}
+
+fn read8(s: &[u8], at: usize) -> u64
+    requires { ⌜ at + 8 ≤ length (now s) ⌝ }
+    ensures { λ r. ⌜ (r ≡ elementAt 8 at (now (s .entry))) × (r < 2 ^ 64) ⌝ }
+{
+    read4(s, at) + read4(s, at + 4) * 4294967296
+}
+
+// The element at a place. Sums and products by numerals: the compiler makes one load of them.
+pub fn element_at(s: &[u8], at: usize, size: Size) -> u64
+    requires { ⌜ at + bytesOf size ≤ length (now s) ⌝ }
+    ensures { λ r. ⌜ (r ≡ elementAt (bytesOf size) at (now (s .entry))) × (r < 2 ^ bitsOf size) ⌝ }
+{
+    match size {
+        Size::Bits8 => read1(s, at),
+        Size::Bits16 => read2(s, at),
+        Size::Bits32 => read4(s, at),
+        Size::Bits64 => read8(s, at),
+    }
+}
+
+fn put1(s: &mut [u8], at: usize, v: u64)
+    requires { ⌜ at + 1 ≤ length (now s) ⌝ }
+    ensures { λ r. ⌜ now (s .exit) ≡ putAt 1 at v (now (s .entry)) ⌝ }
+{
+    s[at] = low(v);
+}
+
+fn put2(s: &mut [u8], at: usize, v: u64)
+    requires { ⌜ at + 2 ≤ length (now s) ⌝ }
+    ensures { λ r. ⌜ now (s .exit) ≡ putAt 2 at v (now (s .entry)) ⌝ }
+{
+    s[at] = low(v);
+    s[at + 1] = low(v / 256);
+}
+
+fn put4(s: &mut [u8], at: usize, v: u64)
+    requires { ⌜ at + 4 ≤ length (now s) ⌝ }
+    ensures { λ r. ⌜ now (s .exit) ≡ putAt 4 at v (now (s .entry)) ⌝ }
+{
+    put2(s, at, v);
+    put2(s, at + 2, v / 65536);
+}
+
+fn put8(s: &mut [u8], at: usize, v: u64)
+    requires { ⌜ at + 8 ≤ length (now s) ⌝ }
+    ensures { λ r. ⌜ now (s .exit) ≡ putAt 8 at v (now (s .entry)) ⌝ }
+{
+    put4(s, at, v);
+    put4(s, at + 4, v / 4294967296);
+}
+
+// The element at a place becomes v, cut to its size.
+pub fn put_element(s: &mut [u8], at: usize, size: Size, v: u64)
+    requires { ⌜ at + bytesOf size ≤ length (now s) ⌝ }
+    ensures { λ r. ⌜ now (s .exit) ≡ putAt (bytesOf size) at v (now (s .entry)) ⌝ }
+{
+    match size {
+        Size::Bits8 => put1(s, at, v),
+        Size::Bits16 => put2(s, at, v),
+        Size::Bits32 => put4(s, at, v),
+        Size::Bits64 => put8(s, at, v),
     }
 }

@@ -1,3 +1,4 @@
 pub mod Tests
 pub mod Bits
 pub mod Lists
+pub mod Modulo

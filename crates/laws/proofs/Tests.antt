@@ -2,9 +2,9 @@
 use mathlib.Core.Path.{_≡_, refl}
 use mathlib.Core.Bool.{Bool, true, false, _&&_, _||_, cond}
 use native.Mathlib.Omega.{arith}
-use Prim.Native.Nat.{ℕ}
-use lib.Dec.{eqb}
-use borrow.Author.Tests.{eq-eqb, ne-eqb}
+use Prim.Native.Nat.{ℕ, _<_, _≤_}
+use lib.Dec.{eqb, ltb}
+use borrow.Author.Tests.{eq-eqb, ne-eqb, ltb-true, ltb-false}
 
 -- both parts of a conjunction that passed
 pub both : (s t : Bool) → (s && t) ≡ true → (s ≡ true) × (t ≡ true)
@@ -44,3 +44,11 @@ cond-holds P false x y k l = l refl
 pub either {ℓ} : {P : Type ℓ} (s t : Bool) → (s || t) ≡ true → (s ≡ true → P) → (t ≡ true → P) → P
 either true t e k l = k refl
 either false t e k l = l e
+
+-- a < b, or b ≤ a
+pub by-lt : {P : Type 0} (a b : ℕ) → (a < b → P) → (b ≤ a → P) → P
+by-lt {P} a b f g = go (ltb a b) refl
+  where
+    go : (t : Bool) → ltb a b ≡ t → P
+    go true e = f (ltb-true a b e)
+    go false e = g (ltb-false a b e)

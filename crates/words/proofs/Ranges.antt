@@ -1,41 +1,21 @@
--- What the fields of a described word can be: of each row, from the text of its layout. Assumes nothing.
+-- The fields of a described word are in range: of each row, from the text of its layout. Assumes nothing.
 use Prim.Native.Nat.{ℕ, zero, suc, _+_, _*_, _/_, _%_, _^_, _<_, _≤_}
 use native.Mathlib.Omega.{arith}
 use mathlib.Core.Path.{_≡_, refl, subst}
 use mathlib.Core.Logic.{_⊎_, inl, inr}
-use mathlib.Core.Bool.{Bool, true, false, not, _||_, cond}
+use mathlib.Core.Bool.{false}
 use mathlib.Core.List.{List, [], _∷_}
 use lib.Dec.{eqb}
-use borrow.Author.Tests.{eqb-true, eqb-false}
+use borrow.Author.Tests.{eqb-false}
 use Rattle.laws.proofs.Lists.{Each}
-use Rattle.laws.proofs.Tests.{by-cond, either, cond-holds}
+use Rattle.laws.proofs.Tests.{by-cond, cond-holds}
 use Rattle.layouts.specs.Layout.{matches}
 use Rattle.words.specs.Rows.{rowA, rowB, rowC16, rowC32, rowD2, rowD4, rowE2, rowE4}
 use Rattle.words.specs.Says.{Row, table, entryA, entryB, entry, fieldsA16, fieldsA32, fieldsA, fieldsB, fieldsC, fieldsD, fieldsE, saysOf, saysFirst, describe}
-use Rattle.words.specs.declared.Family.{Family}
-use Rattle.words.specs.declared.Family.the-variants.{ByElement, Vector, Saturating, LongLong, Long}
+use Rattle.words.specs.Ranges.{Ranges}
 use Rattle.words.specs.declared.Fields.{Fields}
 use Rattle.words.specs.declared.Described.the-variants.{As, Nothing}
 use Rattle.words.proofs.Table.{found, never}
-
--- a family that writes Z has single registers; one that writes ZA has groups of 2 or 4, a select register, and a lane that its elements hold k times
-abbrev pub OfFamily : Family → Fields → Type 0
-OfFamily ByElement f = f .group ≡ 1
-OfFamily Vector f = f .group ≡ 1
-OfFamily Saturating f = f .group ≡ 1
-OfFamily LongLong f = ((f .group ≡ 2) ⊎ (f .group ≡ 4)) × ((f .lane ≡ 8) ⊎ (f .lane ≡ 16)) × (8 ≤ f .select) × (f .select < 12) × (f .offset < 8)
-OfFamily Long f = ((f .group ≡ 2) ⊎ (f .group ≡ 4)) × (f .lane ≡ 16) × (8 ≤ f .select) × (f .select < 12) × (f .offset < 8)
-
-pub record Ranges (f : Fields) : Type 0 where
-  pub lane : (f .lane ≡ 8) ⊎ ((f .lane ≡ 16) ⊎ (f .lane ≡ 32))
-  pub part : f .part < 2
-  -- an element of a register's 128 bits
-  pub index : f .index * f .lane < 128
-  pub destination : f .destination < 32
-  -- no source register passes 31
-  pub first : f .first + f .group ≤ 32
-  pub second : f .second + f .group ≤ 32
-  pub of-family : OfFamily (f .family) f
 
 InRange : Row → Type 0
 InRange r = (w : ℕ) → r .reserved w ≡ false → Ranges (r .fields w)

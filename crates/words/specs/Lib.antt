@@ -3,3 +3,4 @@ pub mod Says
 pub mod Decode
 pub mod Partner
 pub mod Sign
+pub mod Ranges

@@ -1,0 +1,174 @@
+-- Counts over the bits of two lists of bytes, for any test of two bits: equal lists, turned lists, parts, splices and bounds. Assumes nothing.
+use mathlib.Core.Path.{_≡_, refl, sym, ap₂, _∙_}
+use mathlib.Core.List.{List, [], _∷_, _++_}
+use Prim.Native.Nat.{ℕ, zero, suc, _+_, _*_, _/_, _%_, _^_, _≤_, _<_}
+use native.Mathlib.Nat.{zero-add, suc-add, add-assoc, mod-lt}
+use native.Mathlib.Numerals.{add-one, one-add}
+use native.Mathlib.Omega.{arith}
+use lib.ListN.{length, getD, set, take, drop, length-take, length-drop, take-append-drop}
+use lib.Seq.{drop-drop, length-take-le}
+use lib.Pow.{shr-shr, field, mod-mod-pow}
+use lib.Bits.{differ}
+use lib.Dec.{lit<}
+use Rattle.elements.specs.Elements.{splice}
+use Rattle.elements.proofs.Files.{length-splice, take-splice, part-splice, drop-splice}
+use Rattle.bits.specs.Bits.{overBits, overBytes, toggled}
+
+pub two-lt : (x : ℕ) → x % 2 < 2
+two-lt x = mod-lt x (lit< tt)
+
+-- what holds of the four pairs of bits holds of any two bits
+pub two-bits : (P : ℕ → ℕ → Type 0) → P 0 0 → P 0 1 → P 1 0 → P 1 1 → (x y : ℕ) → x < 2 → y < 2 → P x y
+two-bits P a b c d zero zero hx hy = a
+two-bits P a b c d zero (suc zero) hx hy = b
+two-bits P a b c d (suc zero) zero hx hy = c
+two-bits P a b c d (suc zero) (suc zero) hx hy = d
+two-bits P a b c d zero (suc (suc y)) hx hy = absurd (omega arith)
+two-bits P a b c d (suc zero) (suc (suc y)) hx hy = absurd (omega arith)
+two-bits P a b c d (suc (suc x)) y hx hy = absurd (omega arith)
+
+-- ---- what a test of two bits may have
+
+-- equal bits are not counted
+abbrev pub Unmoved : (ℕ → ℕ → ℕ) → Type 0
+Unmoved f = (x : ℕ) → x < 2 → f x x ≡ 0
+
+-- each pair of bits counts at most once
+abbrev pub Once : (ℕ → ℕ → ℕ) → Type 0
+Once f = (x y : ℕ) → x < 2 → y < 2 → f x y ≤ 1
+
+pub differ-unmoved : Unmoved differ
+differ-unmoved zero h = refl
+differ-unmoved (suc x) h = differ-unmoved x (omega arith)
+
+pub differ-once : Once differ
+differ-once = two-bits (λ x y. differ x y ≤ 1) (omega arith) (omega arith) (omega arith) (omega arith)
+
+-- ---- any test
+
+module _ (f : ℕ → ℕ → ℕ) where
+  pub bits-split : (j k a b : ℕ) → overBits f (j + k) a b ≡ overBits f j a b + overBits f k (a / 2 ^ j) (b / 2 ^ j)
+  unfolding overBits
+  bits-split zero k a b = rw (zero-add k, zero-add (overBits f k (a / 2 ^ 0) (b / 2 ^ 0))) (ap₂ (overBits f k) (omega arith) (omega arith))
+  bits-split (suc j) k a b =
+      rw (suc-add, bits-split j k (a / 2) (b / 2), shr-shr a 1 j, shr-shr b 1 j, one-add) (sym (add-assoc _ _ _))
+
+  pub bits-mod : (k a b : ℕ) → overBits f k (a % 2 ^ k) (b % 2 ^ k) ≡ overBits f k a b
+  unfolding overBits
+  bits-mod zero a b = refl
+  bits-mod (suc k) a b =
+      rw (← add-one k, mod-mod-pow a k 1, mod-mod-pow b k 1, field a k 1, field b k 1, bits-mod k (a / 2) (b / 2))
+
+  -- lists that are laid one after the other
+  pub bytes-append : (s t u v : List ℕ) → length s ≡ length t → overBytes f (s ++ u) (t ++ v) ≡ overBytes f s t + overBytes f u v
+  unfolding overBytes
+  bytes-append [] [] u v e = sym (zero-add _)
+  bytes-append [] (b ∷ t) u v e = absurd (omega arith)
+  bytes-append (a ∷ s) [] u v e = absurd (omega arith)
+  bytes-append (a ∷ s) (b ∷ t) u v e = rw (bytes-append s t u v (omega arith)) (sym (add-assoc _ _ _))
+
+  pub bytes-cut : (at : ℕ) (s t : List ℕ) → length s ≡ length t
+      → overBytes f s t ≡ overBytes f (take at s) (take at t) + overBytes f (drop at s) (drop at t)
+  bytes-cut at s t long =
+      ap₂ (overBytes f) (sym (take-append-drop at s)) (sym (take-append-drop at t))
+      ∙ bytes-append (take at s) (take at t) (drop at s) (drop at t) (rw (length-take at s, length-take at t, long))
+
+  -- three parts: before `at`, the w bytes from there, and after them
+  pub bytes-parts : (at w : ℕ) (s t : List ℕ) → length s ≡ length t
+      → overBytes f s t
+      ≡ overBytes f (take at s) (take at t) + (overBytes f (take w (drop at s)) (take w (drop at t)) + overBytes f (drop (at + w) s) (drop (at + w) t))
+  bytes-parts at w s t long =
+      bytes-cut at s t long
+      ∙ rw (bytes-cut w (drop at s) (drop at t) (rw (length-drop at s, length-drop at t, long)), drop-drop w at s, drop-drop w at t)
+
+  -- one byte changes, at a place where the two lists agreed so far
+  pub bytes-set : (s t : List ℕ) (i y : ℕ) → length s ≡ length t → i < length t → overBits f 8 (getD s i 0) (getD t i 0) ≡ 0
+      → overBytes f s (set t i y) ≡ overBytes f s t + overBits f 8 (getD s i 0) y
+  unfolding overBytes
+  bytes-set s [] i y e h z = absurd (omega arith)
+  bytes-set [] (b ∷ t) i y e h z = absurd (omega arith)
+  bytes-set (a ∷ s) (b ∷ t) zero y e h z = rw z (omega arith)
+  bytes-set (a ∷ s) (b ∷ t) (suc i) y e h z = rw (bytes-set s t i y (omega arith) (omega arith) z) (sym (add-assoc _ _ _))
+
+-- ---- a test that does not count equal bits
+
+module _ (f : ℕ → ℕ → ℕ) (same : Unmoved f) where
+  pub bits-same : (k a : ℕ) → overBits f k a a ≡ 0
+  unfolding overBits
+  bits-same zero a = refl
+  bits-same (suc k) a = rw (same (a % 2) (two-lt a), bits-same k (a / 2))
+
+  pub bytes-same : (s : List ℕ) → overBytes f s s ≡ 0
+  unfolding overBytes
+  bytes-same [] = refl
+  bytes-same (x ∷ s) = rw (bits-same 8 x, bytes-same s)
+
+  -- a splice changes the bits of its own bytes
+  pub bytes-splice : (at : ℕ) (x s : List ℕ) → at + length x ≤ length s
+      → overBytes f s (splice at x s) ≡ overBytes f (take (length x) (drop at s)) x
+  bytes-splice at x s fit =
+      bytes-parts f at (length x) s (splice at x s) (sym (length-splice at x s fit))
+      ∙ rw (take-splice at x s fit, part-splice at x s fit, drop-splice at x s fit, bytes-same (take at s), bytes-same (drop (at + length x) s)) (omega arith)
+
+  -- where two files agree in the bytes that are replaced in one of them, the counts add up
+  pub bytes-splice-add : (at : ℕ) (x s cur : List ℕ) → length cur ≡ length s → at + length x ≤ length s
+      → take (length x) (drop at cur) ≡ take (length x) (drop at s)
+      → overBytes f s (splice at x cur) ≡ overBytes f s cur + overBytes f cur (splice at x cur)
+  bytes-splice-add at x s cur long fit agree =
+      let room : at + length x ≤ length cur = omega arith in
+      let before : ℕ = overBytes f (take at s) (take at cur) in
+      let own : ℕ = overBytes f (take (length x) (drop at s)) x in
+      let after : ℕ = overBytes f (drop (at + length x) s) (drop (at + length x) cur) in
+      let new : overBytes f s (splice at x cur) ≡ before + (own + after) =
+      bytes-parts f at (length x) s (splice at x cur) (sym long ∙ sym (length-splice at x cur room))
+      ∙ rw (take-splice at x cur room, part-splice at x cur room, drop-splice at x cur room) in
+      let old : overBytes f s cur ≡ before + (0 + after) =
+      bytes-parts f at (length x) s cur (sym long) ∙ rw (agree, bytes-same (take (length x) (drop at s))) in
+      let changed : overBytes f cur (splice at x cur) ≡ own = bytes-splice at x cur room ∙ rw agree in
+      omega arith
+
+-- ---- a test that counts each pair of bits at most once
+
+module _ (f : ℕ → ℕ → ℕ) (once : Once f) where
+  pub bits-le : (k a b : ℕ) → overBits f k a b ≤ k
+  unfolding overBits
+  bits-le zero a b = omega arith
+  bits-le (suc k) a b = omega (arith, once (a % 2) (b % 2) (two-lt a) (two-lt b), bits-le k (a / 2) (b / 2))
+
+  pub bytes-le : (s t : List ℕ) → overBytes f s t ≤ 8 * length s
+  unfolding overBytes
+  bytes-le [] t = omega arith
+  bytes-le (x ∷ s) [] = omega arith
+  bytes-le (x ∷ s) (y ∷ t) = omega (arith, bits-le 8 x y, bytes-le s t)
+
+  pub bytes-splice-le : Unmoved f → (at : ℕ) (x s : List ℕ) → at + length x ≤ length s → overBytes f s (splice at x s) ≤ 8 * length x
+  bytes-splice-le same at x s fit =
+      let part : List ℕ = take (length x) (drop at s) in
+      let l : length part ≡ length x = length-take-le (length x) (drop at s) (rw length-drop (omega arith)) in
+      rw (bytes-splice f same at x s fit) (rw l at (bytes-le part x))
+
+-- ---- the two lists turned
+
+module _ (f g : ℕ → ℕ → ℕ) (turned : (x y : ℕ) → x < 2 → y < 2 → f x y ≡ g y x) where
+  pub bits-turned : (k a b : ℕ) → overBits f k a b ≡ overBits g k b a
+  unfolding overBits
+  bits-turned zero a b = refl
+  bits-turned (suc k) a b = rw (turned (a % 2) (b % 2) (two-lt a) (two-lt b), bits-turned k (a / 2) (b / 2))
+
+  pub bytes-turned : (s t : List ℕ) → overBytes f s t ≡ overBytes g t s
+  unfolding overBytes
+  bytes-turned [] [] = refl
+  bytes-turned [] (b ∷ t) = refl
+  bytes-turned (a ∷ s) [] = refl
+  bytes-turned (a ∷ s) (b ∷ t) = rw (bits-turned 8 a b, bytes-turned s t)
+
+-- ---- how many bits differ
+
+pub toggled-comm : (s t : List ℕ) → toggled s t ≡ toggled t s
+toggled-comm = bytes-turned differ differ (two-bits (λ x y. differ x y ≡ differ y x) refl refl refl refl)
+
+pub toggled-same : (s : List ℕ) → toggled s s ≡ 0
+toggled-same = bytes-same differ differ-unmoved
+
+pub toggled-le : (s t : List ℕ) → toggled s t ≤ 8 * length s
+toggled-le = bytes-le differ differ-once

@@ -1,0 +1,4 @@
+pub mod Bits
+pub mod Ones
+pub mod Put
+pub mod Files

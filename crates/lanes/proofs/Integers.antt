@@ -1,0 +1,47 @@
+-- The low bits of an integer, for any number of bits. Assumes nothing.
+use mathlib.Core.Path.{_≡_, refl, sym, ap, _∙_}
+use Prim.Native.Nat.{ℕ, zero, suc, _+_, _-_, _*_, _/_, _%_, _^_, _<_, _≤_}
+use native.Mathlib.Nat.{mod-lt, mod-add-mod, add-mul-mod-self-right, div-add-mod', add-mul, one-mul}
+use native.Mathlib.Omega.{arith}
+use lib.IntN.{ℤ, pos, negsuc, negℤ, _-ℤ_, +ℤ-idl}
+use lib.Pow.{pow-pos}
+use borrow.Author.Tests.{lt-ltb, le-ltb}
+use Rattle.laws.proofs.Modulo.{cancel}
+use Rattle.laws.proofs.Tests.{by-lt}
+use Rattle.lanes.specs.Lane.{low}
+
+-- a - b by the order of a and b
+pub minus-lt : (a b : ℕ) → a < b → pos a -ℤ pos b ≡ negsuc (b - suc a)
+minus-lt a zero h = absurd (omega arith)
+minus-lt a (suc b) h = simp (lt-ltb a (suc b) h)
+
+pub minus-ge : (a b : ℕ) → b ≤ a → pos a -ℤ pos b ≡ pos (a - b)
+minus-ge a zero h = ap pos (omega arith)
+minus-ge a (suc b) h = simp (le-ltb a (suc b) h)
+
+pub low-lt : (n : ℕ) (z : ℤ) → low n z < 2 ^ n
+unfolding low
+low-lt n (pos k) = mod-lt k (pow-pos n)
+low-lt n (negsuc k) = omega (arith, pow-pos n)
+
+pub low-pos : (n k : ℕ) → low n (pos k) ≡ k % 2 ^ n
+unfolding low
+low-pos n k = refl
+
+-- the low bits of a - b and b give a, modulo 2 to n
+pub low-sub-is : (n a b : ℕ) → (low n (pos a -ℤ pos b) + b) % 2 ^ n ≡ a % 2 ^ n
+unfolding low
+low-sub-is n a b = by-lt a b
+    (λ h.
+    let e : ((2 ^ n - 1) - (b - suc a) % 2 ^ n) + b ≡ a + ((b - suc a) / 2 ^ n + 1) * 2 ^ n =
+    omega (arith, div-add-mod' (b - suc a) (2 ^ n), mod-lt (b - suc a) (pow-pos n), add-mul ((b - suc a) / 2 ^ n) 1 (2 ^ n), one-mul (2 ^ n)) in
+    ap (λ (z : ℤ). (low n z + b) % 2 ^ n) (minus-lt a b h) ∙ ap (λ (k : ℕ). k % 2 ^ n) e ∙ add-mul-mod-self-right a ((b - suc a) / 2 ^ n + 1) (2 ^ n))
+    (λ h. let e : a - b + b ≡ a = omega arith in
+    ap (λ (z : ℤ). (low n z + b) % 2 ^ n) (minus-ge a b h) ∙ mod-add-mod (a - b) (2 ^ n) b ∙ ap (λ (k : ℕ). k % 2 ^ n) e)
+
+-- and no other number of n bits does
+pub low-sub : (n a b r : ℕ) → r < 2 ^ n → (r + b) % 2 ^ n ≡ a % 2 ^ n → low n (pos a -ℤ pos b) ≡ r
+low-sub n a b r h e = cancel (2 ^ n) _ r b (low-lt n (pos a -ℤ pos b)) h (low-sub-is n a b ∙ sym e)
+
+pub low-neg : (n m : ℕ) → (low n (negℤ (pos m)) + m) % 2 ^ n ≡ zero % 2 ^ n
+low-neg n m = ap (λ (z : ℤ). (low n z + m) % 2 ^ n) (sym (+ℤ-idl (negℤ (pos m)))) ∙ low-sub-is n zero m

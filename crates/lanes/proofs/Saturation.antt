@@ -1,0 +1,137 @@
+-- A saturating step by signs and magnitudes, for any widths. Assumes nothing.
+use mathlib.Core.Path.{_≡_, refl, sym, ap, _∙_}
+use mathlib.Core.Bool.{Bool, true, false, not, Bool·beq, Bool·not-not}
+use Prim.Native.Nat.{ℕ, zero, suc, _+_, _-_, _*_, _^_, _<_, _≤_, min}
+use native.Mathlib.Nat.{zero-min}
+use native.Mathlib.Omega.{arith}
+use lib.IntN.{ℤ, pos, negsuc, negℤ, _+ℤ_, _*ℤ_, +ℤ-idl, +ℤ-comm, negℤ-+ℤ, negℤ-negℤ}
+use borrow.Author.Tests.{lt-ltb, le-ltb}
+use Rattle.laws.proofs.Tests.{by-lt}
+use Rattle.lanes.specs.Lane.{SInt, Int, low, addSub, clamp, SignedSat, satStep}
+use Rattle.lanes.specs.Signed.{value, signs, limit}
+use Rattle.lanes.proofs.Integers.{minus-ge}
+use Rattle.lanes.proofs.Signs.{value-times}
+
+-- ---- sums of two signs
+
+pub sum-same : (s : Bool) (a b : ℕ) → value s a +ℤ value s b ≡ value s (a + b)
+unfolding value
+sum-same false a b = refl
+sum-same true a b = sym (negℤ-+ℤ (pos a) (pos b))
+
+pub sum-ge : (s : Bool) (a b : ℕ) → b ≤ a → value s a +ℤ value (not s) b ≡ value s (a - b)
+unfolding value
+sum-ge false a b h = minus-ge a b h
+sum-ge true a b h =
+    ap (λ (z : ℤ). negℤ (pos a) +ℤ z) (sym (negℤ-negℤ (pos b)))
+    ∙ sym (negℤ-+ℤ (pos a) (negℤ (pos b)))
+    ∙ ap negℤ (minus-ge a b h)
+
+pub sum-le : (s : Bool) (a b : ℕ) → a ≤ b → value s a +ℤ value (not s) b ≡ value (not s) (b - a)
+sum-le s a b h =
+    +ℤ-comm (value s a) (value (not s) b)
+    ∙ ap (λ (t : Bool). value (not s) b +ℤ value t a) (sym (Bool·not-not s))
+    ∙ sum-ge (not s) b a h
+
+-- a ± b, by the sign that b is added with
+add-signed : (subtract : Bool) (z : ℤ) (s : Bool) (m : ℕ) → addSub subtract z (value s m) ≡ z +ℤ value (signs s subtract) m
+unfolding value
+add-signed false z false m = refl
+add-signed false z true m = refl
+add-signed true z false m = refl
+add-signed true z true m = ap (λ (k : ℤ). z +ℤ k) (negℤ-negℤ (pos m))
+
+-- ---- clamping takes the magnitude to its limit
+
+clamp-pos : (h m : ℕ) → clamp (suc h) (pos m) ≡ pos (min m (suc h - 1))
+unfolding clamp
+clamp-pos h m = by-lt (suc h - 1) m
+    (λ k. simp (lt-ltb (suc h - 1) m k) (ap pos (omega arith)))
+    (λ k. simp (le-ltb (suc h - 1) m k) (ap pos (omega arith)))
+
+clamp-neg : (h m : ℕ) → clamp (suc h) (negsuc m) ≡ negℤ (pos (min (suc m) (suc h)))
+unfolding clamp
+clamp-neg h m = by-lt h m
+    (λ k. simp (lt-ltb h m k) (ap (λ (n : ℕ). negℤ (pos n)) (more h m k)))
+    (λ k. simp (le-ltb h m k) (ap (λ (n : ℕ). negℤ (pos n)) (less h m k)))
+  where
+    more : (h m : ℕ) → h < m → suc h ≡ min (suc m) (suc h)
+    more h m k = omega arith
+
+    less : (h m : ℕ) → m ≤ h → suc m ≡ min (suc m) (suc h)
+    less h m k = omega arith
+
+pub clamp-value : (half : ℕ) → zero < half → (s : Bool) (m : ℕ) → clamp half (value s m) ≡ value s (min m (limit half s))
+unfolding value
+clamp-value zero h s m = absurd (omega arith)
+clamp-value (suc half) h false m = clamp-pos half m
+clamp-value (suc half) h true zero = clamp-pos half zero ∙ simp zero-min
+clamp-value (suc half) h true (suc m) = clamp-neg half m
+
+pub limit-le : (half : ℕ) (s : Bool) → limit half s ≤ half
+limit-le half false = omega arith
+limit-le half true = omega arith
+
+-- ---- what the code's branches ask
+
+-- the three cases of a sum
+pub clamp-same : (half : ℕ) (s t : Bool) (a b : ℕ) (r : ℤ) → Bool·beq s t ≡ true
+    → r ≡ clamp half (value t (a + b)) → r ≡ clamp half (value s a +ℤ value t b)
+clamp-same half false false a b r e h = h ∙ ap (clamp half) (sym (sum-same false a b))
+clamp-same half false true a b r e h = cc
+clamp-same half true false a b r e h = cc
+clamp-same half true true a b r e h = h ∙ ap (clamp half) (sym (sum-same true a b))
+
+other : (s t : Bool) → Bool·beq s t ≡ false → t ≡ not s
+other false false e = cc
+other false true e = refl
+other true false e = refl
+other true true e = cc
+
+pub clamp-ge : (half : ℕ) (s t : Bool) (a b : ℕ) (r : ℤ) → Bool·beq s t ≡ false → b ≤ a
+    → r ≡ clamp half (value s (a - b + 0)) → r ≡ clamp half (value s a +ℤ value t b)
+clamp-ge half s t a b r e k h =
+    let z : a - b + 0 ≡ a - b = omega arith in
+    h
+    ∙ ap (λ (m : ℕ). clamp half (value s m)) z
+    ∙ ap (clamp half) (sym (sum-ge s a b k))
+    ∙ ap (λ (u : Bool). clamp half (value s a +ℤ value u b)) (sym (other s t e))
+
+pub clamp-le : (half : ℕ) (s t : Bool) (a b : ℕ) (r : ℤ) → Bool·beq s t ≡ false → a ≤ b
+    → r ≡ clamp half (value t (b - a + 0)) → r ≡ clamp half (value s a +ℤ value t b)
+clamp-le half s t a b r e k h =
+    let z : b - a + 0 ≡ b - a = omega arith in
+    h
+    ∙ ap (λ (m : ℕ). clamp half (value t m)) z
+    ∙ ap (λ (u : Bool). clamp half (value u (b - a))) (other s t e)
+    ∙ ap (clamp half) (sym (sum-le s a b k))
+    ∙ ap (λ (u : Bool). clamp half (value s a +ℤ value u b)) (sym (other s t e))
+
+-- ---- the whole step
+
+twice : (m : ℕ) → m + m ≡ 2 * m
+twice m = omega arith
+
+double : (s : Bool) (m : ℕ) → value s (m + m) ≡ pos 2 *ℤ value s m
+unfolding value
+double false m = ap (value false) (twice m)
+double true m = ap (value true) (twice m) ∙ sym (value-times false true 2 m)
+
+pub sat-is : (lane wide : ℕ) (subtract : Bool) (a x y r h : ℕ) (s t v d sa e : Bool) (p q m dm ma em : ℕ)
+    → h ≡ 2 ^ (wide - 1)
+    → value s p ≡ Int lane false x → value t q ≡ Int lane false y → v ≡ signs s t → m ≡ p * q
+    → value d dm ≡ clamp h (value v (m + m))
+    → value sa ma ≡ Int wide false a
+    → value e em ≡ clamp h (value sa ma +ℤ value (signs d subtract) dm)
+    → r ≡ low wide (pos zero +ℤ value e em)
+    → r ≡ satStep lane wide subtract a x y
+unfolding satStep SignedSat Int
+sat-is lane wide subtract a x y r h s t v d sa e p q m dm ma em eh ex ey ev ep ed ea ee er =
+    er
+    ∙ ap (low wide) (+ℤ-idl (value e em) ∙ ee ∙ ap (clamp h) (sym (add-signed subtract (value sa ma) d dm))
+    ∙ ap (λ (z : ℤ). clamp h (addSub subtract z (value d dm))) ea
+    ∙ ap (λ (z : ℤ). clamp h (addSub subtract (SInt wide a) z)) (ed
+    ∙ ap (clamp h) (double v m
+    ∙ ap (λ (z : ℤ). pos 2 *ℤ z) (ap (λ (b : Bool). value b m) ev ∙ ap (value (signs s t)) ep ∙ sym (value-times s t p q)
+    ∙ ap (λ (z : ℤ). z *ℤ value t q) ex ∙ ap (λ (z : ℤ). SInt lane x *ℤ z) ey)))
+    ∙ ap (λ (k : ℕ). clamp k (addSub subtract (SInt wide a) (clamp k (pos 2 *ℤ (SInt lane x *ℤ SInt lane y))))) eh)

@@ -1,0 +1,3 @@
+pub mod Lane
+pub mod Signed
+pub mod Examples

@@ -1,0 +1,125 @@
+-- The ZA vectors of a word: where they are, and that writing one after the other comes to ZA after the step. Assumes nothing.
+use Prim.Native.Nat.{ℕ, _+_, _-_, _*_, _/_, _%_, _≤_, _<_}
+use native.Mathlib.Nat.{mod-lt}
+use native.Mathlib.Omega.{arith}
+use mathlib.Core.Path.{_≡_, refl, sym, ap, ap₂, _∙_, subst}
+use mathlib.Core.Logic.{_⊎_, inl, inr}
+use mathlib.Core.Bool.{true, _&&_}
+use mathlib.Core.List.{List}
+use lib.Dec.{leb, ltb}
+use lib.ListN.{length, getD}
+use borrow.Author.Tests.{leb-true, le-leb, ltb-true, lt-ltb}
+use Rattle.laws.proofs.Tests.{both}
+use Rattle.settings.specs.Lengths.{VectorLength}
+use Rattle.settings.specs.Valid.{arrayBytes}
+use Rattle.settings.specs.declared.Settings.{Settings}
+use Rattle.settings.proofs.Lengths.{same-length}
+use Rattle.words.specs.Ranges.{Ranges, OfFamily}
+use Rattle.words.specs.declared.Family.{Family}
+use Rattle.words.specs.declared.Family.the-variants.{ByElement, Vector, Saturating, LongLong, Long}
+use Rattle.words.specs.declared.Fields.{Fields}
+use Rattle.recipes.specs.Recipe.{perSource}
+use Rattle.recipes.proofs.Built.{length-newBytes}
+use Rattle.elements.specs.Files.{vectorAt, replaced}
+use Rattle.elements.proofs.Files.{Placed, Names, renewed-cong, replaced-renewed}
+use Rattle.machine.specs.Step.{stride, selected, firstVector, writesVector, newVector, zaAfter}
+use Rattle.machine.specs.Loop.{place, fresh}
+use Rattle.machine.proofs.Grid.{Grid, Written, which, place-lt, place-distinct, place-which, place-written, which-lt, which-row}
+
+-- D and E
+abbrev pub IntoZa : Fields → Type 0
+IntoZa f = (f .family ≡ LongLong) ⊎ (f .family ≡ Long)
+
+-- the group, as a word has it, and k
+za-facts : (f : Fields) → Ranges f → IntoZa f → ((f .group ≡ 2) ⊎ (f .group ≡ 4)) × ((perSource (f .family) ≡ 4) ⊎ (perSource (f .family) ≡ 2))
+za-facts f g (inl e) = let o : OfFamily LongLong f = subst (λ (x : Family). OfFamily x f) e (g .of-family) in (o .0, inl (ap perSource e))
+za-facts f g (inr e) = let o : OfFamily Long f = subst (λ (x : Family). OfFamily x f) e (g .of-family) in (o .0, inr (ap perSource e))
+
+-- rows of a multiple of 4 vectors; rounding down to a multiple of k keeps k vectors below the row's end
+over-numbers : (w group k x : ℕ) → VectorLength w → (group ≡ 2) ⊎ (group ≡ 4) → (k ≡ 4) ⊎ (k ≡ 2)
+    → Grid w group (w / group) k (x % (w / group) - x % (w / group) % k) × ((x % (w / group) - x % (w / group) % k) % k ≡ 0)
+over-numbers w group k x v = go
+  where
+    grid : (stride : ℕ) → w / group ≡ stride → stride % 4 ≡ 0 → 0 < stride → group * stride ≡ w → (k ≡ 4) ⊎ (k ≡ 2)
+        → Grid w group stride k (x % stride - x % stride % k) × ((x % stride - x % stride % k) % k ≡ 0)
+    grid stride e m p t (inl h) =
+        let l = mod-lt x p in rw h (record { rows = t; some = omega arith; fits = omega arith }, omega arith)
+    grid stride e m p t (inr h) =
+        let l = mod-lt x p in rw h (record { rows = t; some = omega arith; fits = omega arith }, omega arith)
+
+    go : (group ≡ 2) ⊎ (group ≡ 4) → (k ≡ 4) ⊎ (k ≡ 2)
+        → Grid w group (w / group) k (x % (w / group) - x % (w / group) % k) × ((x % (w / group) - x % (w / group) % k) % k ≡ 0)
+    go (inl h) = grid (w / group) refl (rw h (omega (arith, v .whole))) (rw h (omega (arith, v .least))) (rw h (omega (arith, v .whole)))
+    go (inr h) = grid (w / group) refl (rw h (omega (arith, v .whole))) (rw h (omega (arith, v .least))) (rw h (omega (arith, v .whole)))
+
+module _ (s : Settings) (v : VectorLength (arrayBytes s)) (f : Fields) (g : Ranges f) (za : IntoZa f) where
+  numbers : Grid (arrayBytes s) (f .group) (stride s f) (perSource (f .family)) (firstVector s f) × (firstVector s f % perSource (f .family) ≡ 0)
+  unfolding stride selected firstVector
+  numbers =
+      let z = za-facts f g za in
+      over-numbers (arrayBytes s) (f .group) (perSource (f .family)) (getD (s .select) (f .select - 8) 0 + f .offset) v (z .0) (z .1)
+
+  pub grid : Grid (arrayBytes s) (f .group) (stride s f) (perSource (f .family)) (firstVector s f)
+  grid = numbers .0
+
+  -- the first vector is a multiple of k
+  pub first-multiple : firstVector s f % perSource (f .family) ≡ 0
+  first-multiple = numbers .1
+
+  -- the test of the definition says so
+  pub tested : (u : ℕ) → writesVector s f u ≡ true → Written grid u
+  unfolding writesVector Written
+  tested u e =
+      let b = both (leb (firstVector s f) (u % stride s f)) (ltb (u % stride s f) (firstVector s f + perSource (f .family))) e in
+      (leb-true (firstVector s f) (u % stride s f) (b .0), ltb-true (u % stride s f) (firstVector s f + perSource (f .family)) (b .1))
+
+  pub passes : (u : ℕ) → Written grid u → writesVector s f u ≡ true
+  unfolding writesVector Written
+  passes u y =
+      rw (le-leb (firstVector s f) (u % stride s f) (y .0), lt-ltb (u % stride s f) (firstVector s f + perSource (f .family)) (y .1))
+
+  module _ (z a : List ℕ) (long : length a ≡ arrayBytes s * arrayBytes s) where
+    abbrev w : ℕ
+    w = arrayBytes s
+
+    abbrev k : ℕ
+    k = perSource (f .family)
+
+    abbrev at : ℕ → ℕ
+    at = place (firstVector s f) (stride s f) k
+
+    abbrev new : ℕ → List ℕ
+    new = fresh f w (firstVector s f) (stride s f) k z a
+
+    pub placed : Placed at new w w (f .group * k) a
+    unfolding fresh
+    placed =
+        record {
+          long = long;
+          inside = place-lt grid;
+          wide = λ q h. length-newBytes _ w _ _ _ (omega (arith, v .whole));
+        }
+
+    names : Names at (which grid) (writesVector s f) w (f .group * k)
+    names =
+        record {
+          named = λ u h e. (which-lt grid u h (tested u e), place-which grid u h (tested u e));
+          all = λ q h. passes (at q) (place-written grid q);
+        }
+
+    -- the vectors by their number are those by r and i
+    by-number : (u : ℕ) → u < w → writesVector s f u ≡ true
+        → new (which grid u) ≡ newVector s f z (u / stride s f) (u % stride s f - firstVector s f) (vectorAt w u a)
+    unfolding fresh newVector
+    by-number u h e =
+        let y = tested u e in
+        let r = which-row grid u y in
+        rw (place-which grid u h y, r .0, r .1, same-length s)
+
+    -- the loop's result is ZA after the step
+    pub array-is : replaced at new w (f .group * k) a ≡ zaAfter s f z a
+    unfolding zaAfter
+    array-is =
+        replaced-renewed at (which grid) new (writesVector s f) w w (f .group * k) a placed (place-distinct grid) names
+        ∙ renewed-cong (writesVector s f) (λ u. new (which grid u))
+        (λ u. newVector s f z (u / stride s f) (u % stride s f - firstVector s f) (vectorAt w u a)) w w a by-number

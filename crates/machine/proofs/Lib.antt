@@ -1,0 +1,3 @@
+pub mod Grid
+pub mod Array
+pub mod Registers

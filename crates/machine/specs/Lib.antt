@@ -1,0 +1,4 @@
+pub mod Modes
+pub mod Step
+pub mod Execute
+pub mod Loop

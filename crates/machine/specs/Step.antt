@@ -1,0 +1,60 @@
+-- Document 01, "What a step does": the registers after a word, vector by vector.
+use Prim.Native.Nat.{ℕ, _+_, _-_, _*_, _/_, _%_}
+use mathlib.Core.Bool.{Bool, _&&_}
+use mathlib.Core.List.{List, _++_}
+use lib.Dec.{eqb, leb, ltb}
+use lib.ListN.{getD, drop}
+use Rattle.settings.specs.Valid.{vectorBytes, arrayBytes}
+use Rattle.settings.specs.declared.Settings.{Settings}
+use Rattle.words.specs.declared.Fields.{Fields}
+use Rattle.elements.specs.Files.{vectorAt, renewed}
+use Rattle.recipes.specs.Recipe.{recipeOf, newLength, perSource}
+use Rattle.recipes.specs.Element.{newBytes}
+
+-- Z register r
+abbrev pub register : Settings → List ℕ → ℕ → List ℕ
+register s z r = vectorAt (vectorBytes s) r z
+
+-- ---- A, B, C: into Z
+
+-- the destination after the step: its new bytes, and above them those that it had
+unfoldable pub newRegister : Settings → Fields → List ℕ → List ℕ
+newRegister s f z =
+    newBytes (recipeOf (f .family) f 0) (newLength (f .family) (vectorBytes s)) (register s z (f .destination)) (register s z (f .first)) (register s z (f .second))
+    ++ drop (newLength (f .family) (vectorBytes s)) (register s z (f .destination))
+
+-- Z after the step: the destination is new, and every other register as it was
+unfoldable pub zAfter : Settings → Fields → List ℕ → List ℕ
+unfolding newRegister
+zAfter s f z = renewed (λ r. eqb r (f .destination)) (λ r. newRegister s f z) (vectorBytes s) 32 z
+
+-- ---- D, E: into ZA
+
+-- stride is (VL/8)/group
+unfoldable pub stride : Settings → Fields → ℕ
+stride s f = arrayBytes s / f .group
+
+-- (W+offset) mod stride
+unfoldable pub selected : Settings → Fields → ℕ
+unfolding stride
+selected s f = (getD (s .select) (f .select - 8) 0 + f .offset) % stride s f
+
+-- the first vector: that, rounded down to a multiple of k
+unfoldable pub firstVector : Settings → Fields → ℕ
+unfolding selected
+firstVector s f = selected s f - selected s f % perSource (f .family)
+
+-- whether the word writes vector v of ZA: v is first + r·stride + i, with i below k. r is v / stride
+unfoldable pub writesVector : Settings → Fields → ℕ → Bool
+unfolding stride firstVector
+writesVector s f v = leb (firstVector s f) (v % stride s f) && ltb (v % stride s f) (firstVector s f + perSource (f .family))
+
+-- vector first + r·stride + i after the step, of Z registers n+r and m+r, where `old` is what it had
+unfoldable pub newVector : Settings → Fields → List ℕ → ℕ → ℕ → List ℕ → List ℕ
+newVector s f z r i old = newBytes (recipeOf (f .family) f i) (arrayBytes s) old (register s z (f .first + r)) (register s z (f .second + r))
+
+-- ZA after the step: each vector that the word writes is new, and every other as it was
+unfoldable pub zaAfter : Settings → Fields → List ℕ → List ℕ → List ℕ
+unfolding stride firstVector writesVector newVector
+zaAfter s f z za =
+    renewed (writesVector s f) (λ v. newVector s f z (v / stride s f) (v % stride s f - firstVector s f) (vectorAt (arrayBytes s) v za)) (arrayBytes s) (arrayBytes s) za

@@ -1,0 +1,118 @@
+-- Every element that a recipe takes lies in its register, and what lies beyond the register does not count. Assumes nothing.
+use Prim.Native.Nat.{ℕ, _+_, _-_, _*_, _/_, _%_, _≤_, _<_}
+use native.Mathlib.Omega.{arith}
+use mathlib.Core.Path.{_≡_, refl, sym, ap, _∙_, subst}
+use mathlib.Core.Logic.{_⊎_, inl, inr}
+use mathlib.Core.Bool.{Bool, true, false, cond}
+use mathlib.Core.List.{List}
+use lib.Dec.{eqb}
+use Rattle.laws.proofs.Tests.{cond-holds}
+use Rattle.settings.specs.Lengths.{VectorLength}
+use Rattle.words.specs.Ranges.{Ranges, OfFamily}
+use Rattle.words.specs.declared.Family.{Family}
+use Rattle.words.specs.declared.Family.the-variants.{ByElement, Vector, Saturating, LongLong, Long}
+use Rattle.words.specs.declared.Fields.{Fields}
+use Rattle.elements.specs.Size.{bitsOf, bytesOf, perHalf}
+use Rattle.elements.specs.declared.Size.{Size}
+use Rattle.elements.specs.declared.Size.the-variants.{Bits8, Bits16, Bits32, Bits64}
+use Rattle.recipes.specs.Recipe.{sizeOf, doubled, each, eachSegment, halfOf, recipe, recipeOf, newLength, perSource}
+use Rattle.recipes.specs.Element.{chosen}
+use Rattle.recipes.specs.Places.{Wider, Inside}
+use Rattle.recipes.specs.declared.Choice.{Choice}
+use Rattle.recipes.specs.declared.Recipe.{Recipe}
+
+-- what holds of the three sizes of a lane holds of the size of any
+lane-sizes {ℓ} : (P : Size → Type ℓ) → P Bits8 → P Bits16 → P Bits32 → (lane : ℕ) → P (sizeOf lane)
+lane-sizes P a b c lane =
+    cond-holds P (eqb lane 8) Bits8 (cond (eqb lane 16) Bits16 Bits32) (λ _. a) (λ _. cond-holds P (eqb lane 16) Bits16 Bits32 (λ _. b) (λ _. c))
+
+-- the size of a lane has the lane's bits
+pub bits-of-lane : {lane : ℕ} → (lane ≡ 8) ⊎ ((lane ≡ 16) ⊎ (lane ≡ 32)) → bitsOf (sizeOf lane) ≡ lane
+bits-of-lane (inl e) = rw e
+bits-of-lane (inr (inl e)) = rw e
+bits-of-lane (inr (inr e)) = rw e
+
+-- element e of the vector lies in the register: it ends at byte w or before
+abbrev In : Size → Choice → ℕ → ℕ → Type 0
+In lane c w e = chosen lane c e * bytesOf lane + bytesOf lane ≤ w
+
+-- ---- the choices of the families, for every size of a lane
+
+half-in : (part w e : ℕ) → part < 2 → 16 ≤ w → (lane : ℕ) → e < 16 / bytesOf (doubled (sizeOf lane)) → In (sizeOf lane) (halfOf part (sizeOf lane)) w e
+half-in part w e p h =
+    lane-sizes (λ (s : Size). e < 16 / bytesOf (doubled s) → In s (halfOf part s) w e) (λ q. omega arith) (λ q. omega arith) (λ q. omega arith)
+
+index-in : (index w e : ℕ) → 16 ≤ w → (lane : ℕ) → index * bitsOf (sizeOf lane) < 128 → In (sizeOf lane) (each 0 index) w e
+index-in index w e h =
+    lane-sizes (λ (s : Size). index * bitsOf s < 128 → In s (each 0 index) w e) (λ q. omega arith) (λ q. omega arith) (λ q. omega arith)
+
+twice-in : (part w e : ℕ) → part < 2 → (lane : ℕ) → e < w / bytesOf (doubled (sizeOf lane)) → In (sizeOf lane) (each 2 part) w e
+twice-in part w e p =
+    lane-sizes (λ (s : Size). e < w / bytesOf (doubled s) → In s (each 2 part) w e) (λ q. omega arith) (λ q. omega arith) (λ q. omega arith)
+
+segment-in : (index w e : ℕ) → w % 16 ≡ 0 → (lane : ℕ) → index * bitsOf (sizeOf lane) < 128 → e < w / bytesOf (doubled (sizeOf lane))
+    → In (sizeOf lane) (eachSegment 2 index) w e
+segment-in index w e h =
+    lane-sizes (λ (s : Size). index * bitsOf s < 128 → e < w / bytesOf (doubled s) → In s (eachSegment 2 index) w e) (λ p q. omega arith) (λ p q. omega arith) (λ p q. omega arith)
+
+fourth-in : (i w e lane : ℕ) → i < 4 → (lane ≡ 8) ⊎ (lane ≡ 16) → e < w / bytesOf (doubled (doubled (sizeOf lane))) → In (sizeOf lane) (each 4 i) w e
+fourth-in i w e lane h (inl l) = rw l (λ q. omega arith)
+fourth-in i w e lane h (inr l) = rw l (λ q. omega arith)
+
+-- ---- a written element holds the product of two lanes
+
+wide-2 : (lane : ℕ) → bitsOf (sizeOf lane) + bitsOf (sizeOf lane) ≤ bitsOf (doubled (sizeOf lane))
+wide-2 = lane-sizes (λ (s : Size). bitsOf s + bitsOf s ≤ bitsOf (doubled s)) (omega arith) (omega arith) (omega arith)
+
+wide-4 : (lane : ℕ) → bitsOf (sizeOf lane) + bitsOf (sizeOf lane) ≤ bitsOf (doubled (doubled (sizeOf lane)))
+wide-4 = lane-sizes (λ (s : Size). bitsOf s + bitsOf s ≤ bitsOf (doubled (doubled s))) (omega arith) (omega arith) (omega arith)
+
+module _ (f : Fields) (g : Ranges f) (w : ℕ) (v : VectorLength w) where
+  index-bits : f .index * bitsOf (sizeOf (f .lane)) < 128
+  index-bits = rw (bits-of-lane (g .lane)) (g .index)
+
+  by-family : (family : Family) → OfFamily family f → (i : ℕ) → i < perSource family → Inside (recipeOf family f i) (newLength family w) w
+  by-family ByElement o i h =
+      record {
+        wider = wide-2 (f .lane);
+        whole = refl;
+        room = v .least;
+        first = λ e. half-in (f .part) w e (g .part) (v .least) (f .lane);
+        second = λ e _. index-in (f .index) w e (v .least) (f .lane) index-bits;
+      }
+  by-family Vector o i h =
+      record {
+        wider = wide-2 (f .lane);
+        whole = refl;
+        room = v .least;
+        first = λ e. half-in (f .part) w e (g .part) (v .least) (f .lane);
+        second = λ e. half-in (f .part) w e (g .part) (v .least) (f .lane);
+      }
+  by-family Saturating o i h =
+      record {
+        wider = wide-2 (f .lane);
+        whole = omega (arith, v .whole);
+        room = omega arith;
+        first = λ e. twice-in (f .part) w e (g .part) (f .lane);
+        second = λ e. segment-in (f .index) w e (v .whole) (f .lane) index-bits;
+      }
+  by-family LongLong o i h =
+      record {
+        wider = wide-4 (f .lane);
+        whole = omega (arith, v .whole);
+        room = omega arith;
+        first = λ e. fourth-in i w e (f .lane) h (o .1);
+        second = λ e. fourth-in i w e (f .lane) h (o .1);
+      }
+  by-family Long o i h =
+      record {
+        wider = wide-2 (f .lane);
+        whole = omega (arith, v .whole);
+        room = omega arith;
+        first = λ e. twice-in i w e h (f .lane);
+        second = λ e. twice-in i w e h (f .lane);
+      }
+
+  -- of every word that is described: no element too far
+  pub inside : (i : ℕ) → i < perSource (f .family) → Inside (recipeOf (f .family) f i) (newLength (f .family) w) w
+  inside = by-family (f .family) (g .of-family)
