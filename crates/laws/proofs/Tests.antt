@@ -1,6 +1,6 @@
 -- Tests and choices: what a test that passed says of its parts, and a choice by a test. Assumes nothing.
-use mathlib.Core.Path.{_≡_, refl}
-use mathlib.Core.Bool.{Bool, true, false, _&&_, _||_, cond}
+use mathlib.Core.Path.{_≡_, refl, sym}
+use mathlib.Core.Bool.{Bool, true, false, not, _&&_, _||_, cond}
 use native.Mathlib.Omega.{arith}
 use Prim.Native.Nat.{ℕ, _<_, _≤_}
 use lib.Dec.{eqb, ltb}
@@ -52,3 +52,12 @@ by-lt {P} a b f g = go (ltb a b) refl
     go : (t : Bool) → ltb a b ≡ t → P
     go true e = f (ltb-true a b e)
     go false e = g (ltb-false a b e)
+
+-- a test that is turned round
+pub refuted : (b : Bool) → not b ≡ true → b ≡ false
+refuted true e = sym e
+refuted false e = refl
+
+pub upheld : (b : Bool) → not b ≡ false → b ≡ true
+upheld true e = refl
+upheld false e = sym e

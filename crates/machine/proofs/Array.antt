@@ -23,15 +23,12 @@ use Rattle.recipes.proofs.Built.{length-newBytes}
 use Rattle.elements.specs.Files.{vectorAt, replaced}
 use Rattle.elements.proofs.Files.{Placed, Names, renewed-cong, replaced-renewed}
 use Rattle.machine.specs.Step.{stride, selected, firstVector, writesVector, newVector, zaAfter}
+pub use Rattle.machine.specs.Loop.{IntoZa}
 use Rattle.machine.specs.Loop.{place, fresh}
 use Rattle.machine.proofs.Grid.{Grid, Written, which, place-lt, place-distinct, place-which, place-written, which-lt, which-row}
 
--- D and E
-abbrev pub IntoZa : Fields → Type 0
-IntoZa f = (f .family ≡ LongLong) ⊎ (f .family ≡ Long)
-
 -- the group, as a word has it, and k
-za-facts : (f : Fields) → Ranges f → IntoZa f → ((f .group ≡ 2) ⊎ (f .group ≡ 4)) × ((perSource (f .family) ≡ 4) ⊎ (perSource (f .family) ≡ 2))
+pub za-facts : (f : Fields) → Ranges f → IntoZa f → ((f .group ≡ 2) ⊎ (f .group ≡ 4)) × ((perSource (f .family) ≡ 4) ⊎ (perSource (f .family) ≡ 2))
 za-facts f g (inl e) = let o : OfFamily LongLong f = subst (λ (x : Family). OfFamily x f) e (g .of-family) in (o .0, inl (ap perSource e))
 za-facts f g (inr e) = let o : OfFamily Long f = subst (λ (x : Family). OfFamily x f) e (g .of-family) in (o .0, inr (ap perSource e))
 

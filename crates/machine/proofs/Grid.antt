@@ -8,13 +8,8 @@ use lib.Arith.{digits-div, digits-mod, digits-lt}
 use lib.Dec.{leb, ltb}
 use borrow.Author.Tests.{leb-true, le-leb, ltb-true, lt-ltb}
 use Rattle.laws.proofs.Tests.{both}
+pub use Rattle.machine.specs.Loop.{Grid}
 use Rattle.machine.specs.Loop.{place}
-
--- w vectors are `group` rows of `stride`; in each row, k of them from `first` on
-pub record Grid (w group stride k first : ℕ) : Type 0 where
-  pub rows : group * stride ≡ w
-  pub some : 0 < k
-  pub fits : first + k ≤ stride
 
 module _ {w group stride k first : ℕ} (g : Grid w group stride k first) where
   -- r and i of vector first + r·stride + i

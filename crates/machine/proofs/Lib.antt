@@ -1,3 +1,14 @@
 pub mod Grid
 pub mod Array
 pub mod Registers
+pub mod Renewal
+pub mod Vectors
+pub mod Selected
+pub mod Stepping
+pub mod Executing
+pub mod Sizes
+pub mod Effects
+pub mod Outcomes
+pub mod Accepted
+pub mod Theorems
+pub mod Answers

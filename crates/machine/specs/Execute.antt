@@ -2,6 +2,7 @@
 use Prim.Native.Nat.{ℕ, _+_, _*_}
 use mathlib.Core.Bool.{Bool, _&&_, cond}
 use mathlib.Core.List.{List}
+use mathlib.Core.Path.{_≡_}
 use lib.Dec.{eqb}
 use lib.ListN.{length}
 use Rattle.settings.specs.Valid.{validSettings, vectorBytes, arrayBytes}
@@ -76,3 +77,11 @@ executePaper s w z za =
     cond (validSettings s)
     (cond (rightLengths s (length z) (length za)) (executeDecoded s (decodeEnabled (s .features .0) w) z za) (refusedWith 2 z za))
     (refusedWith 1 z za)
+
+-- ---- only contracts use this
+
+-- what the step has done to the files, and the bits that differ
+pub record Stepped (s : Settings) (f : Fields) (t : ℕ) (z za z′ za′ : List ℕ) : Type 0 where
+  pub z-after : z′ ≡ stepped s f z za .z
+  pub za-after : za′ ≡ stepped s f z za .za
+  pub bits : t ≡ stepped s f z za .toggled

@@ -1,4 +1,5 @@
 pub mod Modes
 pub mod Step
 pub mod Execute
+pub mod Theorems
 pub mod Loop

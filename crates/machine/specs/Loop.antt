@@ -1,12 +1,27 @@
--- The vectors of ZA that a word writes, one after the other, as the code goes. Only contracts use this.
-use Prim.Native.Nat.{ℕ, _+_, _*_, _/_, _%_}
+-- The vectors of ZA that a word writes, one after the other, as the code goes, and what the code asks of its places. Only contracts use this.
+use Prim.Native.Nat.{ℕ, _+_, _*_, _/_, _%_, _≤_, _<_}
+use mathlib.Core.Path.{_≡_}
+use mathlib.Core.Logic.{_⊎_}
+use mathlib.Core.Bool.{true}
 use mathlib.Core.List.{List}
-use Rattle.elements.specs.Files.{vectorAt}
+use lib.ListN.{length}
+use Rattle.settings.specs.Lengths.{VectorLength}
+use Rattle.settings.specs.Valid.{validSettings, vectorBytes, arrayBytes}
+use Rattle.settings.specs.declared.Settings.{Settings}
+use Rattle.words.specs.Ranges.{Ranges}
+use Rattle.words.specs.declared.Family.the-variants.{LongLong, Long}
 use Rattle.words.specs.declared.Fields.{Fields}
-use Rattle.recipes.specs.Recipe.{recipeOf}
+use Rattle.elements.specs.Files.{vectorAt}
+use Rattle.recipes.specs.Recipe.{recipeOf, newLength, perSource}
 use Rattle.recipes.specs.Element.{newBytes}
 
--- the q-th: r is q / k and i is q % k
+-- w vectors are `group` rows of `stride`; in each row, k of them from `first` on
+pub record Grid (w group stride k first : ℕ) : Type 0 where
+  pub rows : group * stride ≡ w
+  pub some : 0 < k
+  pub fits : first + k ≤ stride
+
+-- the q-th vector: r is q / k and i is q % k
 unfoldable pub place : ℕ → ℕ → ℕ → ℕ → ℕ
 place first stride k q = first + q / k * stride + q % k
 
@@ -15,3 +30,26 @@ unfoldable pub fresh : Fields → ℕ → ℕ → ℕ → ℕ → List ℕ → L
 unfolding place
 fresh f w first stride k z za q =
     newBytes (recipeOf (f .family) f (q % k)) w (vectorAt w (place first stride k q) za) (vectorAt w (f .first + q / k) z) (vectorAt w (f .second + q / k) z)
+
+-- D and E
+abbrev pub IntoZa : Fields → Type 0
+IntoZa f = (f .family ≡ LongLong) ⊎ (f .family ≡ Long)
+
+-- a word's fields, Z, and room for the new bytes of a vector
+pub record Sources (f : Fields) (w : ℕ) (z out : List ℕ) : Type 0 where
+  pub ranges : Ranges f
+  pub width : VectorLength w
+  pub z-long : length z ≡ 32 * w
+  pub out-long : length out ≡ newLength (f .family) w
+
+-- and ZA
+pub record Places (f : Fields) (w : ℕ) (z za out : List ℕ) : Type 0 where
+  pub sources : Sources f w z out
+  pub into : IntoZa f
+  pub za-long : length za ≡ w * w
+
+-- the settings are valid, and Z and ZA have their lengths
+pub record Ready (s : Settings) (z za : List ℕ) : Type 0 where
+  pub valid : validSettings s ≡ true
+  pub z-long : length z ≡ 32 * vectorBytes s
+  pub za-long : length za ≡ arrayBytes s * arrayBytes s

@@ -1,5 +1,27 @@
 ghost use mathlib.Core.Path.{_≡_};
+ghost use mathlib.Core.Bool.{true};
+ghost use Prim.Native.Nat.{_+_, _-_, _*_, _/_, _%_, _≤_, _<_};
+ghost use lib.ListN.{length};
+ghost use Rattle.settings.specs.Valid.{validSettings, vectorBytes, arrayBytes};
+ghost use Rattle.elements.specs.Files.{vectorAt, replaced};
+ghost use Rattle.bits.specs.Bits.{toggled};
+ghost use Rattle.bits.specs.Replace.{Replaced};
+ghost use Rattle.recipes.specs.Recipe.{recipeOf, newLength, perSource};
+ghost use Rattle.recipes.specs.Element.{newBytes};
+ghost use Rattle.machine.specs.Modes.{permits};
+ghost use Rattle.machine.specs.Step.{zAfter, zaAfter};
+ghost use Rattle.machine.specs.Loop.{Grid, place, fresh, Sources, Places, Ready};
+ghost use Rattle.machine.specs.Execute.{executedSays, writtenBits, stepped, Stepped, executeFields, executeDecoded, rightLengths, executePaper};
+ghost use Rattle.machine.specs.declared.Executed.the-variants.{Done};
+ghost use Rattle.words.specs.Ranges.{Ranges};
+ghost use Rattle.words.specs.Decode.{decodeEnabled};
+use settings::Features;
+use settings::Modes;
 use settings::Refusal;
+use settings::Settings;
+use words::Decoded;
+use words::Family;
+use words::Fields;
 
 // The bits that a step changed, and those that it wrote.
 pub struct Counts {
@@ -10,4 +32,231 @@ pub struct Counts {
 pub enum Executed {
     Done(Counts),
     Refused(Refusal),
+}
+
+// A, B, C: the low bytes of the destination become new; registers have w bytes, and `out` is room for the new ones. Answers how many bits
+// changed.
+fn step_register(fields: Fields, w: usize, z: &mut [u8], out: &mut [u8]) -> u32
+    requires { ⌜ Sources fields w (now z) (now out) ⌝ }
+    ensures { λ t. ⌜ Replaced (fields .destination * w) t
+        (newBytes (recipeOf (fields .family) fields 0) (newLength (fields .family) w) (vectorAt w (fields .destination) (now (z .entry))) (vectorAt w (fields .first) (now (z .entry))) (vectorAt w (fields .second) (now (z .entry))))
+        (now (z .entry)) (now (z .exit)) ⌝ }
+{
+    let recipe = recipes::recipe_of(fields, 0);
+    let at = fields.destination as usize * w;
+    let n = fields.first as usize * w;
+    let m = fields.second as usize * w;
+    recipes::build(recipe, z, at, z, n, m, out);
+    bits::replace(z, at, out)
+}
+
+// D, E: vector v of ZA, which is first + r·stride + i, becomes new. Answers how many bits changed.
+fn step_vector(
+    fields: Fields,
+    w: usize,
+    v: usize,
+    r: usize,
+    i: usize,
+    z: &[u8],
+    za: &mut [u8],
+    out: &mut [u8],
+) -> u32
+    requires { ⌜ Places fields w (now z) (now za) (now out) ⌝ }
+    requires { ⌜ (v < w) × (r < fields .group) × (i < perSource (fields .family)) ⌝ }
+    ensures { λ t. ⌜ Replaced (v * w) t
+        (newBytes (recipeOf (fields .family) fields i) w (vectorAt w v (now (za .entry))) (vectorAt w (fields .first + r) (now (z .entry))) (vectorAt w (fields .second + r) (now (z .entry))))
+        (now (za .entry)) (now (za .exit)) ⌝ }
+{
+    let recipe = recipes::recipe_of(fields, i);
+    let at = v * w;
+    let n = (fields.first as usize + r) * w;
+    let m = (fields.second as usize + r) * w;
+    recipes::build(recipe, za, at, z, n, m, out);
+    bits::replace(za, at, out)
+}
+
+// D, E: the vectors first + r·stride + i of ZA become new, for r below the group and i below k. Answers how many bits changed.
+fn step_vectors(
+    fields: Fields,
+    w: usize,
+    first: usize,
+    stride: usize,
+    k: usize,
+    z: &[u8],
+    za: &mut [u8],
+    out: &mut [u8],
+) -> u32
+    requires { ⌜ Places fields w (now z) (now za) (now out) ⌝ }
+    requires { ⌜ Grid w (fields .group) stride k first × (k ≡ perSource (fields .family)) ⌝ }
+    ensures { λ t. ⌜ (now (za .exit) ≡ replaced (place first stride k) (fresh fields w first stride k (now (z .entry)) (now (za .entry))) w (fields .group * k) (now (za .entry))) × (t ≡ toggled (now (za .entry)) (now (za .exit))) ⌝ }
+{
+    let count = fields.group as usize * k;
+    let mut t: u32 = 0;
+    let mut q: usize = 0;
+    while q < count {
+        let r = q / k;
+        let i = q % k;
+        t += step_vector(fields, w, first + r * stride + i, r, i, z, za, out);
+        q += 1;
+    }
+    t
+}
+
+// D, E, with k vectors for a source register: ZA after the step. Answers how many bits changed.
+fn step_array(
+    settings: Settings,
+    fields: Fields,
+    k: usize,
+    z: &[u8],
+    za: &mut [u8],
+    out: &mut [u8],
+) -> u32
+    requires { ⌜ Places fields (arrayBytes settings) (now z) (now za) (now out) ⌝ }
+    requires { ⌜ k ≡ perSource (fields .family) ⌝ }
+    ensures { λ t. ⌜ (now (za .exit) ≡ zaAfter settings fields (now (z .entry)) (now (za .entry))) × (t ≡ toggled (now (za .entry)) (now (za .exit))) ⌝ }
+{
+    let w = settings.array_bytes() as usize;
+    let stride = w / fields.group as usize;
+    let number = settings.select_register(fields.select) as usize;
+    let selected = (number + fields.offset as usize) % stride;
+    let first = selected - selected % k;
+    step_vectors(fields, w, first, stride, k, z, za, out)
+}
+
+// A, B need SM off. C needs SM on, or SVE2. D, E need SM and ZA on.
+fn permitted(features: Features, modes: Modes, family: Family) -> bool
+    ensures { λ r. ⌜ r ≡ permits (features .0) (modes .0) family ⌝ }
+{
+    match family {
+        Family::ByElement => !modes.contains(Modes::SM),
+        Family::Vector => !modes.contains(Modes::SM),
+        Family::Saturating => modes.contains(Modes::SM) | features.contains(Features::SVE2),
+        Family::LongLong => modes.contains(Modes::SM) & modes.contains(Modes::ZA),
+        Family::Long => modes.contains(Modes::SM) & modes.contains(Modes::ZA),
+    }
+}
+
+fn right_lengths(settings: Settings, z: usize, za: usize) -> bool
+    requires { ⌜ validSettings settings ≡ true ⌝ }
+    ensures { λ r. ⌜ r ≡ rightLengths settings z za ⌝ }
+{
+    let register = settings.vector_bytes() as usize;
+    let vector = settings.array_bytes() as usize;
+    (z == 32 * register) & (za == vector * vector)
+}
+
+// The bytes of a written vector that are new.
+fn new_length(family: Family, w: usize) -> usize
+    ensures { λ r. ⌜ r ≡ newLength family w ⌝ }
+{
+    match family {
+        Family::ByElement => 16,
+        Family::Vector => 16,
+        Family::Saturating => w,
+        Family::LongLong => w,
+        Family::Long => w,
+    }
+}
+
+fn written_bits(vl: u32, group: u32, family: Family) -> u32
+    requires { ⌜ (vl ≤ 2048) × (group ≤ 32) ⌝ }
+    ensures { λ r. ⌜ r ≡ writtenBits vl group family ⌝ }
+{
+    match family {
+        Family::ByElement => 128,
+        Family::Vector => 128,
+        Family::Saturating => vl,
+        Family::LongLong => vl * group * 4,
+        Family::Long => vl * group * 2,
+    }
+}
+
+// The registers after the step. `out` is room for the new bytes of a vector. Answers how many bits changed.
+fn step_files(
+    settings: Settings,
+    fields: Fields,
+    w: usize,
+    z: &mut [u8],
+    za: &mut [u8],
+    out: &mut [u8],
+) -> u32
+    requires { ⌜ Ready settings (now z) (now za) ⌝ }
+    requires { ⌜ Ranges fields ⌝ }
+    requires { ⌜ (w ≡ vectorBytes settings) × (length (now out) ≡ newLength (fields .family) w) ⌝ }
+    ensures { λ t. ⌜ Stepped settings fields t (now (z .entry)) (now (za .entry)) (now (z .exit)) (now (za .exit)) ⌝ }
+{
+    let family = fields.family;
+    match family {
+        Family::ByElement => step_register(fields, w, z, out),
+        Family::Vector => step_register(fields, w, z, out),
+        Family::Saturating => step_register(fields, w, z, out),
+        Family::LongLong => step_array(settings, fields, 4, z, za, out),
+        Family::Long => step_array(settings, fields, 2, z, za, out),
+    }
+}
+
+// The step, with its counts. `scratch` is room for the longest vector.
+fn step(
+    settings: Settings,
+    fields: Fields,
+    z: &mut [u8],
+    za: &mut [u8],
+    scratch: &mut [u8],
+) -> Counts
+    requires { ⌜ Ready settings (now z) (now za) ⌝ }
+    requires { ⌜ Ranges fields ⌝ }
+    requires { ⌜ vectorBytes settings ≤ length (now scratch) ⌝ }
+    ensures { λ c. ⌜ executedSays (Done c) (now (z .exit)) (now (za .exit)) ≡ stepped settings fields (now (z .entry)) (now (za .entry)) ⌝ }
+{
+    let bytes = settings.vector_bytes();
+    let w = bytes as usize;
+    let family = fields.family;
+    let length = new_length(family, w);
+    let toggled = step_files(settings, fields, w, z, za, &mut scratch[..length]);
+    let written = written_bits(8 * bytes, fields.group, family);
+    Counts {
+        toggled: toggled,
+        written: written,
+    }
+}
+
+// 4, or the step.
+fn execute_fields(settings: Settings, fields: Fields, z: &mut [u8], za: &mut [u8]) -> Executed
+    requires { ⌜ Ready settings (now z) (now za) ⌝ }
+    requires { ⌜ Ranges fields ⌝ }
+    ensures { λ r. ⌜ executedSays r (now (z .exit)) (now (za .exit)) ≡ executeFields settings fields (now (z .entry)) (now (za .entry)) ⌝ }
+{
+    let features = settings.features;
+    let modes = settings.modes;
+    let family = fields.family;
+    if !permitted(features, modes, family) {
+        return Executed::Refused(Refusal::WrongMode);
+    }
+    let mut scratch = [0u8; 64];
+    Executed::Done(step(settings, fields, z, za, &mut scratch))
+}
+
+// 3, 4, or the step.
+fn execute_word(settings: Settings, word: u32, z: &mut [u8], za: &mut [u8]) -> Executed
+    requires { ⌜ Ready settings (now z) (now za) ⌝ }
+    ensures { λ r. ⌜ executedSays r (now (z .exit)) (now (za .exit)) ≡ executeDecoded settings (decodeEnabled (settings .features .0) word) (now (z .entry)) (now (za .entry)) ⌝ }
+{
+    let features = settings.features;
+    match words::decode_enabled(features, word) {
+        Decoded::Word(fields) => execute_fields(settings, fields, z, za),
+        Decoded::Refused(refusal) => Executed::Refused(refusal),
+    }
+}
+
+// Executes one word. Z has 32 registers of VL/8 bytes, and ZA VL/8 vectors of VL/8 bytes. A refusal leaves both as they are.
+pub fn execute(settings: Settings, word: u32, z: &mut [u8], za: &mut [u8]) -> Executed
+    ensures { λ r. ⌜ executedSays r (now (z .exit)) (now (za .exit)) ≡ executePaper settings word (now (z .entry)) (now (za .entry)) ⌝ }
+{
+    if !settings.valid() {
+        return Executed::Refused(Refusal::BadSettings);
+    }
+    if !right_lengths(settings, z.len(), za.len()) {
+        return Executed::Refused(Refusal::BadLength);
+    }
+    execute_word(settings, word, z, za)
 }

@@ -43,3 +43,12 @@ module _ (s : Settings) (v : validSettings s ≡ true) where
 pub same-length : (s : Settings) → arrayBytes s ≡ vectorBytes s
 unfolding vectorBytes arrayBytes
 same-length s = refl
+
+-- 512 bits are the most that settings allow
+pub vector-at-most : (s : Settings) → validSettings s ≡ true → vectorBytes s ≤ 64
+unfolding vectorBytes
+vector-at-most s v =
+    let l = length-valid s v in
+    either (eqb (s .vl) 128 || eqb (s .vl) 256) (eqb (s .vl) 512) l
+    (λ p. either (eqb (s .vl) 128) (eqb (s .vl) 256) p (λ q. omega (arith, eqb-true (s .vl) 128 q)) (λ q. omega (arith, eqb-true (s .vl) 256 q)))
+    (λ q. omega (arith, eqb-true (s .vl) 512 q))

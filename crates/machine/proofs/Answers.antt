@@ -1,0 +1,49 @@
+-- What the promise of execute determines: the answer, and Z and ZA at the end. Assumes nothing.
+use Prim.Native.Nat.{ℕ}
+use native.Mathlib.Omega.{arith}
+use mathlib.Core.Path.{_≡_, refl, sym, ap, ap₂, _∙_}
+use mathlib.Core.List.{List}
+use Rattle.settings.specs.Refused.{refusalNumber}
+use Rattle.settings.specs.declared.Settings.{Settings}
+use Rattle.settings.specs.declared.Refusal.{Refusal}
+use Rattle.settings.proofs.Refusals.{refusal-known, refusal-not-0}
+use Rattle.machine.specs.Execute.{Outcome, executedSays, executePaper}
+use Rattle.machine.specs.declared.Counts.{Counts}
+use Rattle.machine.specs.declared.Executed.{Executed}
+use Rattle.machine.specs.declared.Executed.the-variants.{Done, Refused}
+
+number : Outcome → ℕ
+number o = o .number
+
+-- a refusal does not say the number 0
+not-0 : (r : Refusal) → refusalNumber r ≡ 0 → ⊥
+not-0 r e = omega (arith, refusal-not-0 r)
+
+-- an answer is known by its number and its counts
+pub executed-known : (r q : Executed) (z za z′ za′ : List ℕ) → executedSays r z za ≡ executedSays q z′ za′ → r ≡ q
+unfolding number
+executed-known (Done c) (Done d) z za z′ za′ e =
+    ap Done (ap₂ {A = ℕ} {B = ℕ} {C = Counts} (λ t n. record { toggled = t; written = n }) (ap (λ (o : Outcome). o .toggled) e) (ap (λ (o : Outcome). o .written) e))
+executed-known (Done c) (Refused q) z za z′ za′ e = absurd (not-0 q (sym (ap number e)))
+executed-known (Refused r) (Done d) z za z′ za′ e = absurd (not-0 r (ap number e))
+executed-known (Refused r) (Refused q) z za z′ za′ e = ap Refused (refusal-known r q (ap number e))
+
+-- what an answer says of Z and ZA is what the call left there
+says-z : (r : Executed) (z za : List ℕ) → executedSays r z za .z ≡ z
+says-z (Done c) z za = refl
+says-z (Refused r) z za = refl
+
+says-za : (r : Executed) (z za : List ℕ) → executedSays r z za .za ≡ za
+says-za (Done c) z za = refl
+says-za (Refused r) z za = refl
+
+-- any two answers that execute's promise allows are equal, and so are Z and ZA at the end
+pub execute-unique : (s : Settings) (w : ℕ) (z za : List ℕ) (r q : Executed) (z1 za1 z2 za2 : List ℕ)
+    → executedSays r z1 za1 ≡ executePaper s w z za → executedSays q z2 za2 ≡ executePaper s w z za
+    → (r ≡ q) × (z1 ≡ z2) × (za1 ≡ za2)
+execute-unique s w z za r q z1 za1 z2 za2 e g =
+    let same : executedSays r z1 za1 ≡ executedSays q z2 za2 = e ∙ sym g in (
+      executed-known r q z1 za1 z2 za2 same,
+      sym (says-z r z1 za1) ∙ ap (λ (o : Outcome). o .z) same ∙ says-z q z2 za2,
+      sym (says-za r z1 za1) ∙ ap (λ (o : Outcome). o .za) same ∙ says-za q z2 za2,
+    )

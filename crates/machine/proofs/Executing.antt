@@ -1,0 +1,62 @@
+-- The tests before a step, in their order. Assumes nothing.
+use Prim.Native.Nat.{ℕ, _*_, _≤_}
+use native.Mathlib.Omega.{arith}
+use mathlib.Core.Path.{_≡_, refl, sym, ap, _∙_}
+use mathlib.Core.Bool.{true, false, _&&_}
+use mathlib.Core.List.{List}
+use lib.Dec.{eqb}
+use lib.ListN.{length}
+use borrow.Author.Tests.{eqb-true, ne-eqb}
+use Rattle.laws.proofs.Tests.{both}
+use Rattle.settings.specs.Valid.{validSettings, vectorBytes, arrayBytes}
+use Rattle.settings.specs.declared.Settings.{Settings}
+use Rattle.words.specs.Decode.{noFields, decodeEnabled, decodePaper}
+use Rattle.words.specs.Ranges.{Ranges}
+use Rattle.words.specs.declared.Fields.{Fields}
+use Rattle.words.proofs.Answers.{decodes-exactly}
+use Rattle.words.proofs.Ranges.{in-range}
+use Rattle.machine.specs.Modes.{permits}
+use Rattle.machine.specs.Execute.{refusedWith, stepped, executeFields, executeDecoded, rightLengths, executePaper}
+use Rattle.machine.specs.Loop.{Ready}
+
+-- an accepted word's fields are in range
+pub word-ranges : (s : Settings) (w : ℕ) (f : Fields) → validSettings s ≡ true → decodeEnabled (s .features .0) w ≡ (0, f) → Ranges f
+unfolding decodePaper
+word-ranges s w f v e = in-range w f (decodes-exactly s w f .0 (rw v e) .says)
+
+module _ (s : Settings) (z za : List ℕ) where
+  -- 1
+  pub not-valid : (w : ℕ) → validSettings s ≡ false → refusedWith 1 z za ≡ executePaper s w z za
+  unfolding executePaper
+  not-valid w e = rw e
+
+  -- 2
+  pub not-long : (w : ℕ) → validSettings s ≡ true → rightLengths s (length z) (length za) ≡ false → refusedWith 2 z za ≡ executePaper s w z za
+  unfolding executePaper
+  not-long w v e = rw (v, e)
+
+  pub is-ready : validSettings s ≡ true → rightLengths s (length z) (length za) ≡ true → Ready s z za
+  is-ready v e =
+      let b = both (eqb (length z) (32 * vectorBytes s)) (eqb (length za) (arrayBytes s * arrayBytes s)) e in
+      record { valid = v; z-long = eqb-true _ _ (b .0); za-long = eqb-true _ _ (b .1) }
+
+  pub is-executed : (w : ℕ) → validSettings s ≡ true → rightLengths s (length z) (length za) ≡ true
+      → executeDecoded s (decodeEnabled (s .features .0) w) z za ≡ executePaper s w z za
+  unfolding executePaper
+  is-executed w v e = rw (v, e)
+
+  -- 3
+  pub not-decoded : (w n : ℕ) → decodeEnabled (s .features .0) w ≡ (n, noFields) → 1 ≤ n → refusedWith n z za ≡ executeDecoded s (decodeEnabled (s .features .0) w) z za
+  not-decoded w n e h = rw (e, ne-eqb n 0 (λ (q : n ≡ 0). omega arith))
+
+  pub is-decoded : (w : ℕ) (f : Fields) → decodeEnabled (s .features .0) w ≡ (0, f) → executeFields s f z za ≡ executeDecoded s (decodeEnabled (s .features .0) w) z za
+  is-decoded w f e = rw e
+
+  -- 4
+  pub not-permitted : (f : Fields) → permits (s .features .0) (s .modes .0) (f .family) ≡ false → refusedWith 4 z za ≡ executeFields s f z za
+  unfolding executeFields
+  not-permitted f e = rw e
+
+  pub is-permitted : (f : Fields) → permits (s .features .0) (s .modes .0) (f .family) ≡ true → stepped s f z za ≡ executeFields s f z za
+  unfolding executeFields
+  is-permitted f e = rw e

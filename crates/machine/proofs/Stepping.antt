@@ -1,0 +1,123 @@
+-- From the vectors that are written to the files after the step. Assumes nothing.
+use Prim.Native.Nat.{ℕ, _+_, _*_, _≤_}
+use native.Mathlib.Nat.{add-zero, zero-add, mul-le-mul-right}
+use native.Mathlib.Omega.{arith}
+use mathlib.Core.Path.{_≡_, refl, sym, ap, _∙_, subst}
+use mathlib.Core.Logic.{_⊎_, inl, inr}
+use mathlib.Core.List.{List}
+use lib.ListN.{length}
+use Rattle.settings.specs.Valid.{vectorBytes, arrayBytes}
+use Rattle.settings.specs.declared.Settings.{Settings}
+use Rattle.settings.proofs.Lengths.{vector-length, same-length}
+use Rattle.words.specs.Ranges.{Ranges}
+use Rattle.words.specs.declared.Family.{Family}
+use Rattle.words.specs.declared.Family.the-variants.{ByElement, Vector, Saturating, LongLong, Long}
+use Rattle.words.specs.declared.Fields.{Fields}
+use Rattle.elements.specs.Files.{vectorAt}
+use Rattle.bits.specs.Bits.{toggled}
+use Rattle.bits.specs.Replace.{Replaced}
+use Rattle.bits.proofs.Bits.{toggled-same}
+use Rattle.recipes.specs.Recipe.{recipeOf, newLength}
+use Rattle.recipes.specs.Element.{newBytes}
+use Rattle.machine.specs.Step.{zAfter, zaAfter}
+use Rattle.machine.specs.Execute.{Outcome, writtenBits, steppedBy, stepped, Stepped}
+use Rattle.machine.specs.Loop.{IntoZa, Sources, Places, Ready}
+use Rattle.machine.proofs.Registers.{new-length, register-is}
+
+-- A, B and C
+abbrev pub IntoZ : Fields → Type 0
+IntoZ f = (f .family ≡ ByElement) ⊎ ((f .family ≡ Vector) ⊎ (f .family ≡ Saturating))
+
+-- an outcome that leaves z′ and za′, with the bits that differ counted over both files
+record Leaves (o : Outcome) (z za z′ za′ : List ℕ) : Type 0 where
+  z-is : o .z ≡ z′
+  za-is : o .za ≡ za′
+  toggled-is : o .toggled ≡ toggled z z′ + toggled za za′
+
+stepped-z : (s : Settings) (f : Fields) (z za : List ℕ) → IntoZ f → Leaves (stepped s f z za) z za (zAfter s f z) za
+unfolding stepped
+stepped-z s f z za (inl e) = record { z-is = rw e; za-is = rw e; toggled-is = rw e }
+stepped-z s f z za (inr (inl e)) = record { z-is = rw e; za-is = rw e; toggled-is = rw e }
+stepped-z s f z za (inr (inr e)) = record { z-is = rw e; za-is = rw e; toggled-is = rw e }
+
+stepped-za : (s : Settings) (f : Fields) (z za : List ℕ) → IntoZa f → Leaves (stepped s f z za) z za z (zaAfter s f z za)
+unfolding stepped
+stepped-za s f z za (inl e) = record { z-is = rw e; za-is = rw e; toggled-is = rw e }
+stepped-za s f z za (inr e) = record { z-is = rw e; za-is = rw e; toggled-is = rw e }
+
+module _ (s : Settings) (f : Fields) (z za out : List ℕ) (p : Ready s z za) (g : Ranges f) (w : ℕ) (ew : w ≡ vectorBytes s) where
+  pub sources-of : length out ≡ newLength (f .family) w → Sources f w z out
+  sources-of l =
+      record {
+        ranges = g;
+        width = rw ew (vector-length s (p .valid));
+        z-long = rw ew (p .z-long);
+        out-long = l;
+      }
+
+  -- a vector of ZA is as long as a register
+  pub places-of : length out ≡ newLength (f .family) w → IntoZa f → Places f (arrayBytes s) z za out
+  places-of l i =
+      record {
+        sources = subst (λ (x : ℕ). Sources f x z out) (ew ∙ sym (same-length s)) (sources-of l);
+        into = i;
+        za-long = p .za-long;
+      }
+
+  pub z-done : IntoZ f → (t : ℕ) (z′ : List ℕ)
+      → Replaced (f .destination * w) t (newBytes (recipeOf (f .family) f 0) (newLength (f .family) w) (vectorAt w (f .destination) z) (vectorAt w (f .first) z) (vectorAt w (f .second) z)) z z′
+      → Stepped s f t z za z′ za
+  z-done i t z′ r =
+      let r′ =
+      subst (λ (x : ℕ). Replaced (f .destination * x) t (newBytes (recipeOf (f .family) f 0) (newLength (f .family) x) (vectorAt x (f .destination) z) (vectorAt x (f .first) z) (vectorAt x (f .second) z)) z z′) ew r in
+      let q = stepped-z s f z za i in
+      let e : z′ ≡ zAfter s f z = r′ .after ∙ register-is s (vector-length s (p .valid)) f g z (p .z-long) in
+      record {
+        z-after = e ∙ sym (q .z-is);
+        za-after = sym (q .za-is);
+        bits = r′ .bits ∙ ap (toggled z) e ∙ sym (q .toggled-is ∙ ap (λ (n : ℕ). toggled z (zAfter s f z) + n) (toggled-same za) ∙ add-zero (toggled z (zAfter s f z)));
+      }
+
+  pub za-done : IntoZa f → (t : ℕ) (za′ : List ℕ) → za′ ≡ zaAfter s f z za → t ≡ toggled za za′ → Stepped s f t z za z za′
+  za-done i t za′ e b =
+      let q = stepped-za s f z za i in
+      record {
+        z-after = sym (q .z-is);
+        za-after = e ∙ sym (q .za-is);
+        bits = b ∙ ap (toggled za) e ∙ sym (q .toggled-is ∙ ap (λ (n : ℕ). n + toggled za (zaAfter s f z za)) (toggled-same z) ∙ zero-add (toggled za (zaAfter s f z za)));
+      }
+
+-- ---- the written bits
+
+pub product-small : (vl group : ℕ) → vl ≤ 2048 → group ≤ 32 → vl * group ≤ 65536
+product-small vl group h k = omega (arith, mul-le-mul-right group h)
+
+-- ---- the outcome, from the files and the counts
+
+by-family : (family : Family) (s : Settings) (f : Fields) (z za : List ℕ)
+    → (steppedBy family s f z za .number ≡ 0) × (steppedBy family s f z za .written ≡ writtenBits (8 * vectorBytes s) (f .group) family)
+by-family ByElement s f z za = (refl, refl)
+by-family Vector s f z za = (refl, refl)
+by-family Saturating s f z za = (refl, refl)
+by-family LongLong s f z za = (refl, refl)
+by-family Long s f z za = (refl, refl)
+
+pub outcome-is : (s : Settings) (f : Fields) (t n bytes : ℕ) (z za z′ za′ : List ℕ) → Stepped s f t z za z′ za′ → bytes ≡ vectorBytes s
+    → n ≡ writtenBits (8 * bytes) (f .group) (f .family) → _≡_ {A = Outcome} (record { number = 0; toggled = t; written = n; z = z′; za = za′ }) (stepped s f z za)
+unfolding stepped
+outcome-is s f t n bytes z za z′ za′ p eb en =
+    let q = by-family (f .family) s f z za in
+    let e : n ≡ stepped s f z za .written = en ∙ ap (λ (b : ℕ). writtenBits (8 * b) (f .group) (f .family)) eb ∙ sym (q .1) in
+    same-outcome (sym (q .0)) (p .bits) e (p .z-after) (p .za-after)
+  where
+    same-outcome : {o : Outcome} {k t n : ℕ} {z za : List ℕ} → k ≡ o .number → t ≡ o .toggled → n ≡ o .written → z ≡ o .z → za ≡ o .za
+        → _≡_ {A = Outcome} (record { number = k; toggled = t; written = n; z = z; za = za }) o
+    same-outcome {o} ek et en ez ea = rw (ek, et, en, ez, ea)
+
+-- room for the new bytes in the scratch, and numbers that fit
+module _ (s : Settings) (z za : List ℕ) (p : Ready s z za) (f : Fields) (g : Ranges f) (scratch : List ℕ) (l : vectorBytes s ≤ length scratch) where
+  pub enough-room : (w n : ℕ) → w ≡ vectorBytes s → n ≡ newLength (f .family) w → n ≤ length scratch
+  enough-room w n ew en = rw (en, ew) (omega (arith, new-length (f .family) (vectorBytes s) (vector-length s (p .valid)) .1))
+
+  pub bits-small : (w : ℕ) → w ≡ vectorBytes s → 8 * w ≤ 2048
+  bits-small w e = omega (arith, vector-length s (p .valid) .most)

@@ -1,0 +1,108 @@
+-- The turns of the loop over a word's vectors of ZA. Assumes nothing.
+use Prim.Native.Nat.{ℕ, zero, suc, _+_, _*_, _/_, _%_, _≤_, _<_}
+use native.Mathlib.Nat.{add-mul, one-mul, mod-lt, mul-le-mul-right, div-lt-iff-lt-mul}
+use native.Mathlib.Numerals.{add-one}
+use native.Mathlib.Omega.{arith}
+use mathlib.Core.Path.{_≡_, refl, sym, ap, ap₂, _∙_, subst}
+use mathlib.Core.Logic.{_⊎_, inl, inr}
+use mathlib.Core.List.{List}
+use lib.Bits.{differ}
+use lib.ListN.{length}
+use Rattle.words.specs.Ranges.{Ranges, OfFamily}
+use Rattle.words.specs.declared.Family.{Family}
+use Rattle.words.specs.declared.Family.the-variants.{LongLong, Long}
+use Rattle.words.specs.declared.Fields.{Fields}
+use Rattle.elements.specs.Elements.{splice}
+use Rattle.elements.specs.Files.{vectorAt, replaced}
+use Rattle.elements.proofs.Files.{Placed, fewer, length-replaced, replaced-out}
+use Rattle.bits.specs.Bits.{overBytes, toggled}
+use Rattle.bits.specs.Replace.{Replaced}
+use Rattle.bits.proofs.Bits.{differ-unmoved}
+use Rattle.bits.proofs.Files.{bytes-replaced}
+use Rattle.recipes.specs.Recipe.{recipeOf, perSource}
+use Rattle.recipes.specs.Element.{newBytes}
+use Rattle.recipes.proofs.Built.{length-newBytes}
+use Rattle.machine.specs.Loop.{Grid, place, fresh, IntoZa, Places}
+use Rattle.machine.proofs.Grid.{place-lt, place-distinct}
+use Rattle.machine.proofs.Array.{za-facts}
+
+module _ {f : Fields} {w : ℕ} {z za₀ out : List ℕ} (p : Places f w z za₀ out) {stride k first : ℕ} (g : Grid w (f .group) stride k first) where
+  -- 16 vectors at most
+  pub few-vectors : k ≡ perSource (f .family) → f .group * k ≤ 16
+  few-vectors e = by (za-facts f (p .sources .ranges) (p .into))
+    where
+      by : ((f .group ≡ 2) ⊎ (f .group ≡ 4)) × ((perSource (f .family) ≡ 4) ⊎ (perSource (f .family) ≡ 2)) → f .group * k ≤ 16
+      by (inl a, inl b) = rw (a, e, b) (omega arith)
+      by (inl a, inr b) = rw (a, e, b) (omega arith)
+      by (inr a, inl b) = rw (a, e, b) (omega arith)
+      by (inr a, inr b) = rw (a, e, b) (omega arith)
+
+  -- r and i of vector q
+  pub row-lt : (q : ℕ) → q < f .group * k → q / k < f .group
+  row-lt q h = div-lt-iff-lt-mul (g .some) .1 h
+
+  pub part-lt : (q : ℕ) → q % k < k
+  part-lt q = mod-lt q (g .some)
+
+  abbrev at : ℕ → ℕ
+  at = place first stride k
+
+  abbrev new : ℕ → List ℕ
+  new = fresh f w first stride k z za₀
+
+  placed-to : (n : ℕ) → n ≤ f .group * k → Placed at new w w n za₀
+  unfolding fresh
+  placed-to n h =
+      record {
+        long = p .za-long;
+        inside = λ q l. place-lt g q (omega arith);
+        wide = λ q l. length-newBytes _ w _ _ _ (omega (arith, p .sources .width .whole));
+      }
+
+  pub length-so-far : (q : ℕ) → q ≤ f .group * k → length (replaced at new w q za₀) ≡ length za₀
+  length-so-far q h = length-replaced at new w w za₀ q (placed-to q h)
+
+  -- vector q is as it was until its turn
+  not-yet : (q : ℕ) → q < f .group * k → vectorAt w (at q) (replaced at new w q za₀) ≡ vectorAt w (at q) za₀
+  not-yet q h =
+      replaced-out at new w w za₀ q (at q) (placed-to q (omega arith))
+      (λ j l e. let d = place-distinct g j q (omega arith) h e in omega arith)
+
+  pub record Turned (q t d : ℕ) (za′ : List ℕ) : Type 0 where
+    pub after : za′ ≡ replaced at new w (q + 1) za₀
+    pub bits : t + d ≡ toggled za₀ za′
+    pub few : d ≤ 8 * w
+
+  pub turn : (q t d v : ℕ) (za za′ : List ℕ) → q < f .group * k → za ≡ replaced at new w q za₀ → t ≡ toggled za₀ za → v ≡ at q
+      → Replaced (v * w) d (newBytes (recipeOf (f .family) f (q % k)) w (vectorAt w v za) (vectorAt w (f .first + q / k) z) (vectorAt w (f .second + q / k) z)) za za′
+      → Turned q t d za′
+  unfolding fresh replaced
+  turn q t d v za za′ h e et ev r =
+      let old : vectorAt w v za ≡ vectorAt w (at q) za₀ = ap₂ (λ (x : ℕ) (s : List ℕ). vectorAt w x s) ev e ∙ not-yet q h in
+      let here : za′ ≡ splice (at q * w) (new q) (replaced at new w q za₀) =
+      r .after
+      ∙ ap (λ (o : List ℕ). splice (v * w) (newBytes (recipeOf (f .family) f (q % k)) w o (vectorAt w (f .first + q / k) z) (vectorAt w (f .second + q / k) z)) za) old
+      ∙ ap₂ (λ (x : ℕ) (s : List ℕ). splice (x * w) (new q) s) ev e in
+      record {
+        after = here ∙ ap (λ (n : ℕ). replaced at new w n za₀) (sym (add-one q));
+        bits =
+            ap₂ _+_ (et ∙ ap (toggled za₀) e) (r .bits ∙ ap₂ toggled e here)
+            ∙ sym (ap (toggled za₀) here ∙ bytes-replaced differ differ-unmoved at new w w za₀ q (placed-to (suc q) h) (λ i j hi hj. place-distinct g i j (omega arith) (omega arith)));
+        few = omega (arith, r .few, length-newBytes (recipeOf (f .family) f (q % k)) w (vectorAt w v za) (vectorAt w (f .first + q / k) z) (vectorAt w (f .second + q / k) z) (omega (arith, p .sources .width .whole)));
+      }
+
+-- the places stay
+pub again : {f : Fields} {w : ℕ} {z za za₀ out out₀ : List ℕ} → Places f w z za₀ out₀ → length za ≡ length za₀ → length out ≡ length out₀ → Places f w z za out
+again p ea eo =
+    record {
+      sources = record { ranges = p .sources .ranges; width = p .sources .width; z-long = p .sources .z-long; out-long = eo ∙ p .sources .out-long };
+      into = p .into;
+      za-long = ea ∙ p .za-long;
+    }
+
+-- the count so far, and that it stays small
+pub count-next : (w q n t d : ℕ) → w ≤ 256 → n ≤ 16 → q < n → t ≤ q * (8 * w) → d ≤ 8 * w → (t + d ≤ (q + 1) * (8 * w)) × (t + d ≤ 32768)
+count-next w q n t d hw hn hq ht hd =
+    let a : t + d ≤ (q + 1) * (8 * w) = omega (arith, add-mul q 1 (8 * w), one-mul (8 * w)) in
+    let b : (q + 1) * (8 * w) ≤ 16 * (8 * w) = mul-le-mul-right (8 * w) (omega arith) in
+    (a, omega arith)
