@@ -1,0 +1,445 @@
+/* The stored cases: single executions with the answers that this program gives, one to a line, for another program to
+ * be held to. README.md says what the columns are and how contents are made from a kind and a seed. */
+#include "commands.h"
+#include "second.h"
+
+#include <stdlib.h>
+#include <string.h>
+
+enum { Z_ROOM = 2049, ZA_ROOM = 4097, FILL_RANDOM = 0, FILL_MIXED = 9, FILL_KINDS = 10 };
+
+/* Contents */
+
+static uint32_t next_state(uint32_t x)
+{
+    return x * 1664525 + 1013904223;
+}
+
+static uint8_t extreme_byte(uint32_t kind, size_t place)
+{
+    switch (kind) {
+    case 1:
+        return 0xFF;
+    case 2:
+        return 0x80;
+    case 3:
+        return 0x7F;
+    case 5:
+        return place % 2 == 1 ? 0x80 : 0;
+    case 6:
+        return place % 4 == 3 ? 0x80 : 0;
+    case 7:
+        return place % 2 == 1 ? 0x7F : 0xFF;
+    case 8:
+        return place % 4 == 3 ? 0x7F : 0xFF;
+    default:
+        return 0;
+    }
+}
+
+static void fill(uint8_t *bytes, size_t length, uint32_t kind, uint32_t seed)
+{
+    uint32_t x = seed;
+    for (size_t i = 0; i < length; i++) {
+        if (kind == FILL_RANDOM || i % 4 == 0)
+            x = next_state(x);
+        if (kind == FILL_RANDOM)
+            bytes[i] = (uint8_t)(x >> 24);
+        else
+            bytes[i] = extreme_byte(kind == FILL_MIXED ? 1 + (x >> 24) % 8 : kind, i);
+    }
+}
+
+static uint32_t checksum(const uint8_t *bytes, size_t length)
+{
+    uint32_t h = 2166136261u;
+    for (size_t i = 0; i < length; i++)
+        h = (h ^ bytes[i]) * 16777619u;
+    return h;
+}
+
+/* Lines */
+
+struct contents {
+    uint32_t kind, seed, length;
+};
+
+struct one_case {
+    struct second_settings s;
+    uint32_t word;
+    struct contents z, za;
+};
+
+static FILE *lines;
+
+/* Chooses what no list below goes through; apart from the contents' generator, so that the two do not run in step. */
+static uint32_t chooser;
+
+static uint32_t choose(uint32_t below)
+{
+    chooser ^= chooser << 13;
+    chooser ^= chooser >> 17;
+    chooser ^= chooser << 5;
+    return chooser % below;
+}
+
+static uint32_t choose_any(void)
+{
+    uint32_t high = choose(65536);
+    return high << 16 | choose(65536);
+}
+
+static void print_case(const struct one_case *c)
+{
+    static uint8_t z[Z_ROOM], za[ZA_ROOM];
+    uint32_t toggled, written;
+    fill(z, c->z.length, c->z.kind, c->z.seed);
+    fill(za, c->za.length, c->za.kind, c->za.seed);
+    int refusal = second_execute(&c->s, c->word, z, c->z.length, za, c->za.length, &toggled, &written);
+    const uint32_t columns[] = {c->s.vl, c->s.features, c->s.modes, c->s.w[0], c->s.w[1], c->s.w[2], c->s.w[3],
+                                c->word, c->z.kind, c->z.seed, c->z.length, c->za.kind, c->za.seed, c->za.length,
+                                (uint32_t)refusal, toggled, written, checksum(z, c->z.length),
+                                checksum(za, c->za.length)};
+    size_t count = sizeof columns / sizeof *columns;
+    for (size_t i = 0; i < count; i++)
+        fprintf(lines, "%08X%c", (unsigned)columns[i], i + 1 < count ? ' ' : '\n');
+}
+
+/* Lengths of the VL, random contents and select registers. */
+static struct one_case common_case(uint32_t vl, uint32_t features, uint32_t modes, uint32_t word)
+{
+    struct one_case c = {.s = {.vl = vl, .features = features, .modes = modes}, .word = word};
+    for (int i = 0; i < 4; i++)
+        c.s.w[i] = choose_any();
+    c.z = (struct contents){FILL_RANDOM, choose_any(), (uint32_t)second_z_length(vl)};
+    c.za = (struct contents){FILL_RANDOM, choose_any(), (uint32_t)second_za_length(vl)};
+    return c;
+}
+
+static const uint32_t vls[] = {128, 256, 512};
+
+/* The word of fields that are known to have one. */
+static uint32_t word_of(const struct second_fields *f)
+{
+    static const struct second_settings all = {.vl = 128, .features = 31};
+    uint32_t word;
+    if (second_encode(&all, f, &word) != SECOND_ACCEPTED)
+        abort();
+    return word;
+}
+
+/* Settings under which the family runs, not always the same ones. */
+static struct one_case permitted(uint32_t vl, const struct second_fields *f)
+{
+    static const uint32_t ab[][2] = {{1, 0}, {3, 0}, {5, 2}, {31, 2}, {13, 0}};
+    static const uint32_t c[][2] = {{2, 0}, {4, 1}, {6, 0}, {6, 3}, {12, 3}, {31, 2}};
+    static const uint32_t d[][2] = {{12, 3}, {13, 3}, {14, 3}, {31, 3}};
+    static const uint32_t d_wide[][2] = {{28, 3}, {29, 3}, {30, 3}, {31, 3}};
+    const uint32_t *pick;
+    if (f->family <= SECOND_FAMILY_B)
+        pick = ab[choose(5)];
+    else if (f->family == SECOND_FAMILY_C)
+        pick = c[choose(6)];
+    else if (f->family == SECOND_FAMILY_D && f->lane == 16)
+        pick = d_wide[choose(4)];
+    else
+        pick = d[choose(4)];
+    return common_case(vl, pick[0], pick[1], word_of(f));
+}
+
+/* Registers that the family can name; `second` has fewer bits in A and C. */
+static uint32_t second_below(const struct second_fields *f)
+{
+    if (f->family == SECOND_FAMILY_A)
+        return f->lane == 16 ? 16 : 32;
+    if (f->family == SECOND_FAMILY_C)
+        return f->lane == 16 ? 8 : 16;
+    return 32;
+}
+
+static void choose_registers(struct second_fields *f)
+{
+    if (f->family >= SECOND_FAMILY_D) {
+        f->first = choose(32 / f->group) * f->group;
+        f->second = choose(32 / f->group) * f->group;
+        return;
+    }
+    f->destination = choose(32);
+    f->first = choose(32);
+    f->second = choose(second_below(f));
+}
+
+/* A list of all fields but the registers, in a fixed order: fields number `at` of a family, or family 0 at its end. */
+static struct second_fields numbered(uint32_t family, uint32_t at)
+{
+    static const uint32_t a_lanes[] = {16, 16, 32}, b_lanes[] = {8, 16, 32};
+    struct second_fields f = {.family = family, .group = 1};
+    f.subtract = at % 2;
+    at /= 2;
+    if (family != SECOND_FAMILY_C) {
+        f.is_unsigned = at % 2;
+        at /= 2;
+    }
+    if (family <= SECOND_FAMILY_C) {
+        f.part = at % 2;
+        at /= 2;
+    }
+    if (family == SECOND_FAMILY_B) {
+        if (at < 3)
+            f.lane = b_lanes[at];
+    } else if (family <= SECOND_FAMILY_C) {
+        if (at < 12)
+            f.lane = a_lanes[at / 4];
+        f.index = at % 8;
+    } else {
+        f.group = at % 2 == 0 ? 2 : 4;
+        f.select = 8 + at / 2 % 4;
+        f.offset = family == SECOND_FAMILY_D ? 4 * (at / 8 % 2) : 2 * (at / 8 % 4);
+        at /= family == SECOND_FAMILY_D ? 16 : 32;
+        if (family == SECOND_FAMILY_D && at < 2)
+            f.lane = 8 + 8 * at;
+        if (family == SECOND_FAMILY_E && at < 1)
+            f.lane = 16;
+    }
+    if (f.lane == 0)
+        f.family = 0;
+    return f;
+}
+
+/* Every sign, operation, part, lane, index, group, select register and offset, `times` over. The contents are random
+ * and mixed by turns. VL goes on by one at each line and each time, so three times give every line every VL. */
+static void all_fields(uint32_t family, uint32_t times)
+{
+    uint32_t turn = 0;
+    for (uint32_t t = 0; t < times; t++)
+        for (uint32_t at = 0;; at++, turn++) {
+            struct second_fields f = numbered(family, at);
+            if (f.family == 0)
+                break;
+            choose_registers(&f);
+            struct one_case c = permitted(vls[(at + t) % 3], &f);
+            c.z.kind = turn % 2 == 0 ? FILL_RANDOM : FILL_MIXED;
+            c.za.kind = turn / 2 % 2 == 0 ? FILL_RANDOM : FILL_MIXED;
+            print_case(&c);
+        }
+}
+
+/* Each lane and sign of a family, the rest by choice. */
+static uint32_t lanes_of(uint32_t family, struct second_fields *variants)
+{
+    uint32_t count = 0;
+    for (uint32_t at = 0; numbered(family, at).family != 0; at++) {
+        struct second_fields f = numbered(family, at);
+        int known = 0;
+        for (uint32_t i = 0; i < count; i++)
+            known |= variants[i].lane == f.lane && variants[i].is_unsigned == f.is_unsigned;
+        if (!known)
+            variants[count++] = f;
+    }
+    return count;
+}
+
+static void choose_rest(struct second_fields *f)
+{
+    f->subtract = choose(2);
+    if (f->family <= SECOND_FAMILY_C)
+        f->part = choose(2);
+    if (f->family == SECOND_FAMILY_A || f->family == SECOND_FAMILY_C)
+        f->index = choose(f->lane == 16 ? 8 : 4);
+    if (f->family >= SECOND_FAMILY_D) {
+        f->group = choose(2) == 0 ? 2 : 4;
+        f->select = 8 + choose(4);
+        f->offset = f->family == SECOND_FAMILY_D ? 4 * choose(2) : 2 * choose(4);
+    }
+    choose_registers(f);
+}
+
+/* Each kind of extreme contents, added and subtracted. */
+static void extremes(uint32_t family)
+{
+    struct second_fields variants[8];
+    uint32_t count = lanes_of(family, variants);
+    for (uint32_t v = 0; v < count; v++)
+        for (uint32_t kind = 1; kind < FILL_KINDS; kind++)
+            for (uint32_t subtract = 0; subtract < 2; subtract++) {
+                struct second_fields f = variants[v];
+                choose_rest(&f);
+                f.subtract = subtract;
+                struct one_case c = permitted(vls[(v + kind + subtract) % 3], &f);
+                c.z.kind = kind;
+                c.za.kind = kind == 9 ? FILL_MIXED : choose(FILL_KINDS);
+                print_case(&c);
+            }
+}
+
+/* The destination as the first source, as the second, and as both. */
+static void shared_registers(uint32_t family)
+{
+    struct second_fields variants[8];
+    uint32_t count = lanes_of(family, variants);
+    for (uint32_t v = 0; v < count; v++)
+        for (uint32_t shared = 1; shared < 4; shared++)
+            for (uint32_t i = 0; i < 3; i++) {
+                struct second_fields f = variants[v];
+                choose_rest(&f);
+                f.part = (v + shared + i) % 2;
+                if (shared % 2 == 1)
+                    f.destination = f.first = choose(second_below(&f));
+                if (shared / 2 == 1)
+                    f.second = f.destination = shared == 3 ? f.destination : choose(second_below(&f));
+                struct one_case c = permitted(vls[i], &f);
+                c.z.kind = i == 1 ? FILL_MIXED : FILL_RANDOM;
+                print_case(&c);
+            }
+}
+
+/* The last registers of Z, which end where Z ends. */
+static void top_registers(uint32_t family)
+{
+    struct second_fields variants[8];
+    uint32_t count = lanes_of(family, variants);
+    for (uint32_t v = 0; v < count; v++)
+        for (uint32_t i = 0; i < 3; i++) {
+            struct second_fields f = variants[v];
+            choose_rest(&f);
+            if (family >= SECOND_FAMILY_D)
+                f.group = i == v % 3 ? 2 : 4;
+            uint32_t top = 32 - f.group;
+            f.first = top;
+            f.second = second_below(&f) - f.group;
+            f.destination = family <= SECOND_FAMILY_C ? top : 0;
+            struct one_case c = permitted(vls[i], &f);
+            print_case(&c);
+        }
+}
+
+/* W at the top of 32 bits and round each stride, with each offset: the sum goes past 2^32. */
+static void select_values(uint32_t family)
+{
+    static const uint32_t ws[] = {UINT32_MAX, UINT32_MAX - 1, UINT32_MAX - 5, 7, 15};
+    for (uint32_t w = 0; w < sizeof ws / sizeof *ws; w++)
+        for (uint32_t offset = 0; offset < (family == SECOND_FAMILY_D ? 2 : 4); offset++)
+            for (uint32_t group = 2; group <= 4; group += 2) {
+                struct second_fields f = {.family = family, .lane = 16, .group = group, .select = 8 + choose(4)};
+                f.offset = offset * (family == SECOND_FAMILY_D ? 4 : 2);
+                f.subtract = choose(2);
+                f.is_unsigned = choose(2);
+                choose_registers(&f);
+                struct one_case c = permitted(vls[(w + offset + group / 2) % 3], &f);
+                c.s.w[f.select - 8] = ws[w];
+                print_case(&c);
+            }
+}
+
+/* Refusals */
+
+/* One word of each family, A to E, and of D with lane 16. */
+static const uint32_t samples[] = {0x2F726820, 0x0E228020, 0x44BA3820, 0xC1A20008, 0xC1E20800, 0xC1E20008};
+enum { SAMPLES = sizeof samples / sizeof *samples };
+
+static void settings_refused(void)
+{
+    static const uint32_t bad_vls[] = {0, 1, 64, 127, 129, 192, 384, 511, 1024, UINT32_MAX};
+    static const uint32_t bad_features[] = {8, 9, 16, 17, 24, 27, 32, 63, 0x80000000, UINT32_MAX};
+    static const uint32_t bad_modes[][2] = {{31, 4}, {31, 7}, {31, UINT32_MAX}, {3, 1}, {3, 2}, {3, 3}, {0, 1}};
+    for (uint32_t i = 0; i < sizeof bad_vls / sizeof *bad_vls; i++) {
+        struct one_case c = common_case(128, 31, 3, samples[i % SAMPLES]);
+        c.s.vl = bad_vls[i];
+        print_case(&c);
+    }
+    for (uint32_t i = 0; i < sizeof bad_features / sizeof *bad_features; i++) {
+        struct one_case c = common_case(vls[i % 3], bad_features[i], 0, samples[i % SAMPLES]);
+        print_case(&c);
+    }
+    for (uint32_t i = 0; i < sizeof bad_modes / sizeof *bad_modes; i++) {
+        struct one_case c = common_case(vls[i % 3], bad_modes[i][0], bad_modes[i][1], samples[i % SAMPLES]);
+        print_case(&c);
+    }
+    struct one_case both = common_case(128, 32, 0, 0);
+    both.z.length = 0;
+    print_case(&both);
+}
+
+static void print_lengths(uint32_t vl, uint32_t modes, uint32_t word, uint32_t z, uint32_t za)
+{
+    struct one_case c = common_case(vl, 31, modes, word);
+    c.z.length = z;
+    c.za.length = za;
+    print_case(&c);
+}
+
+static void lengths_refused(void)
+{
+    for (uint32_t i = 0; i < 3; i++) {
+        uint32_t z = (uint32_t)second_z_length(vls[i]), za = (uint32_t)second_za_length(vls[i]);
+        uint32_t other = vls[(i + 1) % 3];
+        const uint32_t wrong[][2] = {{z - 1, za}, {z + 1, za}, {0, za}, {z, za - 1}, {z, za + 1}, {z, 0}, {0, 0},
+                                     {(uint32_t)second_z_length(other), (uint32_t)second_za_length(other)}};
+        for (uint32_t j = 0; j < sizeof wrong / sizeof *wrong; j++) {
+            uint32_t word = samples[(i + j) % SAMPLES];
+            print_lengths(vls[i], word >> 31 == 1 ? 3 : 0, word, wrong[j][0], wrong[j][1]);
+        }
+        print_lengths(vls[i], 0, 0xFFFFFFFF, z, za - 1);
+        print_lengths(vls[i], 1, samples[0], z + 1, za);
+    }
+}
+
+static void words_refused(void)
+{
+    static const uint32_t lacking[][3] = {
+        {0x2F726820, 0, 0},  {0x2F726820, 30, 0}, {0x0E228020, 2, 0},  {0x0E228020, 30, 3}, {0x44BA3820, 0, 0},
+        {0x44BA3820, 1, 0},  {0x44F23C20, 1, 0},  {0xC1A20008, 7, 3},  {0xC1A20008, 20, 3}, {0xC1A20008, 23, 3},
+        {0xC1E20008, 12, 3}, {0xC1E20008, 15, 3}, {0xC1E50099, 12, 3}, {0xC1E50099, 20, 3}, {0xC1E20800, 4, 3},
+        {0xC1E20800, 23, 0}, {0xC1E10803, 7, 2},  {0x2F026020, 31, 0}, {0x2FC26020, 31, 0}, {0x0EE28020, 31, 0},
+        {0x44222020, 31, 0}, {0x44622020, 31, 0}, {0, 31, 0},          {UINT32_MAX, 31, 3}};
+    static const uint32_t rows[] = {0x2F726820, 0x0E228020, 0x44BA3820, 0x44F23C20, 0xC1A20008, 0xC1A10008,
+                                    0xC1E20800, 0xC1E10803};
+    for (uint32_t i = 0; i < sizeof lacking / sizeof *lacking; i++) {
+        struct one_case c = common_case(vls[i % 3], lacking[i][1], lacking[i][2], lacking[i][0]);
+        c.z.kind = i % FILL_KINDS;
+        c.za.kind = (i + 3) % FILL_KINDS;
+        print_case(&c);
+    }
+    /* One bit away from a word: often none, at times another word, and the line says which. */
+    for (uint32_t i = 0; i < sizeof rows / sizeof *rows; i++)
+        for (uint32_t bit = i % 2; bit < 32; bit += 2) {
+            struct one_case c = common_case(vls[(i + bit) % 3], 31, rows[i] >> 31 == 1 ? 3 : 0, rows[i] ^ 1u << bit);
+            print_case(&c);
+        }
+}
+
+/* Each family under each pair of features and modes that decides its mode. */
+static void modes_tried(void)
+{
+    static const uint32_t pairs[][2] = {{31, 0}, {31, 1}, {31, 2}, {31, 3}, {29, 0}, {29, 1}, {29, 2}, {29, 3},
+                                        {6, 0},  {6, 1},  {4, 0},  {4, 1},  {4, 2},  {4, 3},  {2, 0},  {3, 0}};
+    for (uint32_t i = 0; i < SAMPLES; i++)
+        for (uint32_t j = 0; j < sizeof pairs / sizeof *pairs; j++) {
+            struct one_case c = common_case(vls[(i + j) % 3], pairs[j][0], pairs[j][1], samples[i]);
+            print_case(&c);
+        }
+}
+
+int cases_command(FILE *out)
+{
+    lines = out;
+    chooser = 20010831;
+    all_fields(SECOND_FAMILY_A, 1);
+    all_fields(SECOND_FAMILY_B, 3);
+    all_fields(SECOND_FAMILY_C, 3);
+    all_fields(SECOND_FAMILY_D, 1);
+    all_fields(SECOND_FAMILY_E, 1);
+    for (uint32_t family = SECOND_FAMILY_A; family <= SECOND_FAMILY_E; family++) {
+        extremes(family);
+        top_registers(family);
+        if (family <= SECOND_FAMILY_C)
+            shared_registers(family);
+        else
+            select_values(family);
+    }
+    settings_refused();
+    lengths_refused();
+    words_refused();
+    modes_tried();
+    return 0;
+}

@@ -1,0 +1,441 @@
+#include "commands.h"
+#include "second.h"
+
+#include <stdlib.h>
+#include <string.h>
+
+static unsigned checks, failures;
+
+static void check(int holds, const char *what)
+{
+    checks++;
+    if (!holds) {
+        failures++;
+        printf("failed: %s\n", what);
+    }
+}
+
+/* One machine at VL 128, the bench's own. */
+static struct bench {
+    struct second_settings s;
+    uint8_t z[512], za[256];
+    uint32_t toggled, written;
+} b;
+
+static void set_up(uint32_t features, uint32_t modes, uint8_t fill)
+{
+    memset(&b, 0, sizeof b);
+    b.s.vl = 128;
+    b.s.features = features;
+    b.s.modes = modes;
+    memset(b.z, fill, sizeof b.z);
+}
+
+static int step(uint32_t word)
+{
+    return second_execute(&b.s, word, b.z, sizeof b.z, b.za, sizeof b.za, &b.toggled, &b.written);
+}
+
+static int decoded(uint32_t features, uint32_t word, struct second_fields *f)
+{
+    struct second_settings s = {.vl = 128, .features = features};
+    return second_decode(&s, word, f);
+}
+
+static uint32_t little(const uint8_t *p, int bytes)
+{
+    uint32_t value = 0;
+    for (int i = bytes; i-- > 0;)
+        value = value << 8 | p[i];
+    return value;
+}
+
+static int lanes_are(uint32_t lane16)
+{
+    for (int e = 0; e < 8; e++)
+        if (little(b.z + 2 * e, 2) != lane16)
+            return 0;
+    return 1;
+}
+
+static void rows_of_ab(void)
+{
+    struct second_fields f;
+    set_up(1, 0, 1);
+    check(step(0x0E228020) == 0 && lanes_are(0x0102) && b.toggled == 16 && b.written == 128, "P1");
+    check(second_percent(b.toggled, b.written) == 12, "P1 percent");
+    set_up(1, 0, 1);
+    check(step(0x0E22A020) == 0 && lanes_are(0x0100) && b.toggled == 8 && b.written == 128, "P2");
+    check(second_percent(b.toggled, b.written) == 6, "P2 percent");
+    set_up(1, 0, 0xFF);
+    memset(b.z, 0, 16);
+    check(step(0x0E228020) == 0 && little(b.z, 2) == 0x0001, "P3");
+    set_up(1, 0, 0xFF);
+    memset(b.z, 0, 16);
+    check(step(0x2E228020) == 0 && little(b.z, 2) == 0xFE01, "P4");
+    struct second_fields p5 = {.family = SECOND_FAMILY_A, .is_unsigned = 1, .subtract = 1, .lane = 16, .index = 7,
+                               .first = 1, .second = 2, .group = 1};
+    check(decoded(1, 0x2F726820, &f) == 0 && memcmp(&f, &p5, sizeof f) == 0, "P5");
+    check(decoded(1, 0x2F026020, &f) == 3 && decoded(1, 0x2FC26020, &f) == 3, "P6");
+    check(decoded(1, 0x0EE28020, &f) == 3, "P7");
+}
+
+static void rows_of_c(void)
+{
+    struct second_fields f;
+    struct second_fields p8 = {.family = SECOND_FAMILY_C, .subtract = 1, .lane = 16, .index = 7, .first = 1,
+                               .second = 2, .group = 1};
+    check(decoded(2, 0x44BA3820, &f) == 0 && memcmp(&f, &p8, sizeof f) == 0, "P8");
+    set_up(2, 0, 0);
+    for (int e = 0; e < 16; e++)
+        b.z[16 + 2 * e + 1] = 0x80;
+    check(step(0x44BA3820) == 0 && little(b.z, 4) == 0x80000001, "P9");
+    memset(b.z, 0xFF, 16);
+    check(step(0x44BA2820) == 0 && little(b.z, 4) == 2147483646, "P10");
+    /* The fourth of the mistakes that look right, at lane 32: the add form from 0 reaches the top and no further. */
+    set_up(2, 0, 0);
+    for (int e = 0; e < 8; e++)
+        b.z[16 + 4 * e + 3] = 0x80;
+    check(step(0x44E22020) == 0 && little(b.z, 4) == 0xFFFFFFFF && little(b.z + 4, 4) == 0x7FFFFFFF, "2^63 clamped");
+}
+
+/* Whether exactly the vectors whose bits are set in `which` have changed from zero. */
+static int vectors_are(uint32_t which)
+{
+    static const uint8_t zeros[16];
+    uint32_t seen = 0;
+    for (int v = 0; v < 16; v++)
+        if (memcmp(b.za + 16 * v, zeros, 16) != 0)
+            seen |= 1u << v;
+    return seen == which;
+}
+
+static void rows_of_de(void)
+{
+    struct second_fields f;
+    check(decoded(12, 0xC1E20008, &f) == 3 && decoded(28, 0xC1E20008, &f) == 0, "P11");
+    set_up(12, 3, 1);
+    b.s.w[0] = 7;
+    check(step(0xC1A20008) == 0 && vectors_are(0xF0F0), "P12");
+    set_up(12, 3, 1);
+    b.s.w[0] = 1;
+    check(step(0xC1E20800) == 0 && vectors_are(0x0303), "P13");
+    check(second_percent(1023, 1024) == 99, "row 14");
+    /* 2^32-1 with offset 4 is 2^32+3: at stride 8 that is vector 3, rounded down to 0. */
+    set_up(12, 3, 1);
+    b.s.w[0] = UINT32_MAX;
+    check(step(0xC1A20001) == 0 && vectors_are(0x0F0F), "W at the top");
+    check(second_percent(UINT32_MAX, 1) == 429496729500u && second_percent(5, 0) == 0, "percent beyond 100");
+}
+
+/* Lists */
+
+static uint8_t list[16384];
+static size_t list_len;
+
+static void put_number(uint32_t number)
+{
+    while (number >= 128) {
+        list[list_len++] = (uint8_t)(number % 128 + 128);
+        number /= 128;
+    }
+    list[list_len++] = (uint8_t)number;
+}
+
+static void put_head(uint32_t vl, uint32_t features, uint32_t modes)
+{
+    list_len = 0;
+    put_number(vl);
+    put_number(features);
+    put_number(modes);
+    for (int i = 0; i < 4; i++)
+        put_number(0);
+}
+
+static void put_z(void)
+{
+    memset(list + list_len, 1, 512);
+    list_len += 512;
+}
+
+struct answer {
+    int refusal;
+    size_t place;
+    uint32_t words;
+    int untouched;
+};
+
+static struct answer run(size_t length, size_t z_len, size_t za_len, size_t report_len)
+{
+    static uint8_t z[2049], za[4097];
+    static uint32_t report[3 * SECOND_MOST_WORDS + 1];
+    struct answer a;
+    memset(z, 0xA5, sizeof z);
+    memset(za, 0xA5, sizeof za);
+    memset(report, 0xA5, sizeof report);
+    /* A copy of just this length lets the sanitizer see a read past the list's end. */
+    uint8_t *exact = malloc(length + (length == 0));
+    if (exact == NULL)
+        abort();
+    memcpy(exact, list, length);
+    a.refusal = second_run(exact, length, z, z_len, za, za_len, report, report_len, &a.place, &a.words);
+    free(exact);
+    a.untouched = 1;
+    for (size_t i = 0; i < sizeof z; i++)
+        a.untouched &= z[i] == 0xA5;
+    for (size_t i = 0; i < sizeof za; i++)
+        a.untouched &= za[i] == 0xA5;
+    for (size_t i = 0; i < sizeof report / sizeof *report; i++)
+        a.untouched &= report[i] == 0xA5A5A5A5;
+    return a;
+}
+
+static void refused(size_t length, int refusal, size_t place, const char *what)
+{
+    struct answer a = run(length, 512, 256, 3072);
+    check(a.refusal == refusal && a.place == place && a.words == 0 && a.untouched, what);
+}
+
+static void put_example(void)
+{
+    static const uint8_t head[] = {0x80, 0x01, 0x0C, 0x03, 0, 0, 0, 0};
+    static const uint8_t tail[] = {0x03, 0x88, 0x80, 0x88, 0x8D, 0x0C, 0xA0, 0x80, 0x8A, 0x71, 0x80, 0x80, 0x88,
+                                   0x8D, 0x0C};
+    memcpy(list, head, sizeof head);
+    list_len = sizeof head;
+    put_z();
+    memcpy(list + list_len, tail, sizeof tail);
+    list_len += sizeof tail;
+}
+
+static void printed(const char *expected, const char *what)
+{
+    char text[512] = "";
+    FILE *out = tmpfile();
+    if (out == NULL)
+        abort();
+    print_run(out, list, list_len);
+    rewind(out);
+    size_t got = fread(text, 1, sizeof text - 1, out);
+    text[got] = '\0';
+    fclose(out);
+    check(strcmp(text, expected) == 0, what);
+}
+
+static void lists(void)
+{
+    put_example();
+    printed("words 3\n1 C1A20008 1024 1024 100\n2 0E228020 refused 3\n3 C1A20000 1024 1024 100\n"
+            "total 2048 2048 100\n",
+            "the example list");
+    /* Every list that ends early is 7: at the number or the Z bytes that it ends in. */
+    static const size_t starts[] = {0, 2, 3, 4, 5, 6, 7, 8, 520, 521, 526, 530, 535};
+    for (size_t i = 0, at = 0; i < list_len; i++) {
+        while (at + 1 < sizeof starts / sizeof *starts && starts[at + 1] <= i)
+            at++;
+        refused(i, 7, starts[at], "a list cut short");
+    }
+    list[list_len++] = 0;
+    refused(list_len, 10, 535, "extra bytes");
+    list_len = 0;
+    printed("refused 7 at 0\n", "the empty list");
+    put_head(128, 12, 3);
+    put_z();
+    put_number(0);
+    printed("words 0\ntotal 0 0 0\n", "no words");
+}
+
+static void numbers(void)
+{
+    memset(list, 0x80, 8);
+    refused(4, 7, 0, "four bytes that go on");
+    refused(5, 8, 0, "a fifth byte of 128 is above 15");
+    list[4] = 16;
+    refused(5, 8, 0, "a fifth byte of 16");
+    list[4] = 0;
+    refused(5, 8, 0, "a fifth byte of 0");
+    list[4] = 15;
+    refused(5, 7, 5, "a fifth byte of 15 is a number");
+    list[1] = 0;
+    refused(2, 8, 0, "a last group of zero");
+    list[0] = 0;
+    list[1] = 0x80;
+    list[2] = 0;
+    refused(3, 8, 1, "a last group of zero, second number");
+}
+
+static void list_settings(void)
+{
+    put_head(127, 0, 0);
+    refused(list_len, 1, 0, "list: VL 127");
+    put_head(128, 32, 0);
+    refused(list_len, 1, 0, "list: features 32");
+    put_head(128, 12, 4);
+    refused(list_len, 1, 0, "list: modes 4");
+    put_head(128, 12, 3);
+    refused(list_len - 1, 7, list_len - 1, "list: settings wait for W11");
+    check(run(list_len, 511, 256, 3072).refusal == 2, "list: Z short");
+    check(run(list_len, 513, 256, 3072).refusal == 2, "list: Z long");
+    check(run(list_len, 512, 255, 3072).refusal == 2, "list: ZA short");
+    check(run(list_len, 512, 257, 3072).refusal == 2, "list: ZA long");
+    refused(list_len, 7, list_len, "list: no Z bytes");
+}
+
+static void list_words(void)
+{
+    put_head(128, 12, 3);
+    put_z();
+    size_t count_place = list_len;
+    put_number(1025);
+    refused(list_len, 9, count_place, "row 15: 1,025 words");
+    struct answer nine = run(list_len, 512, 256, 0);
+    check(nine.refusal == 9 && nine.place == count_place && nine.untouched, "9 before the report's length");
+    list_len = count_place;
+    put_number(1024);
+    check(run(list_len, 512, 256, 3071).refusal == 2, "the report's length before the first word");
+    for (int i = 0; i < 1024; i++)
+        put_number(0xC1A20008);
+    struct answer a = run(list_len, 512, 256, 3072);
+    check(a.refusal == 0 && a.place == 0 && a.words == 1024 && !a.untouched, "row 15: 1,024 words");
+    a = run(list_len, 512, 256, 3071);
+    check(a.refusal == 2 && a.place == 0 && a.words == 0 && a.untouched, "a report one short");
+}
+
+/* Single calls */
+
+static void settings_refused(void)
+{
+    static const struct second_settings bad[] = {
+        {.vl = 0, .features = 1},           {.vl = 127, .features = 1},        {.vl = 384, .features = 1},
+        {.vl = 1024, .features = 1},        {.vl = 128, .features = 32},       {.vl = 128, .features = 8},
+        {.vl = 128, .features = 16},        {.vl = 128, .features = 24},       {.vl = 128, .features = 27},
+        {.vl = 128, .features = 1, .modes = 1}, {.vl = 128, .features = 3, .modes = 2},
+        {.vl = 128, .features = 12, .modes = 4}};
+    for (size_t i = 0; i < sizeof bad / sizeof *bad; i++) {
+        struct second_fields f;
+        uint32_t word;
+        check(second_decode(&bad[i], 0x0E228020, &f) == 1 && f.family == 0 && f.group == 0, "decode 1");
+        check(second_encode(&bad[i], &f, &word) == 1 && word == 0, "encode 1 before 5");
+        check(second_partner(&bad[i], 0x44BA3820, &word) == 1 && word == 0, "partner 1 before 6");
+        set_up(1, 0, 1);
+        b.s = bad[i];
+        check(second_execute(&b.s, 0, b.z, 0, b.za, 0, &b.toggled, &b.written) == 1, "execute 1 before 2");
+    }
+    struct second_settings none = {.vl = 128};
+    struct second_fields f;
+    check(second_decode(&none, 0x0E228020, &f) == 3, "features 0 is valid, and has no family");
+}
+
+static void lengths_and_modes(void)
+{
+    uint32_t t, w;
+    set_up(31, 3, 1);
+    check(second_execute(&b.s, 0, b.z, 511, b.za, 256, &t, &w) == 2, "Z short before 3");
+    check(second_execute(&b.s, 0, b.z, 512, b.za, 255, &t, &w) == 2, "ZA short before 3");
+    check(second_execute(&b.s, 0, b.z, 512, b.za, 0, &t, &w) == 2, "no ZA");
+    check(step(0) == 3, "no layout");
+    check(step(0x0E228020) == 4 && step(0x2F726820) == 4, "A and B with SM on");
+    check(step(0x44BA3820) == 0, "C with SM on");
+    b.s.modes = 2;
+    check(step(0x0E228020) == 0 && step(0x2F726820) == 0, "A and B with ZA alone");
+    check(step(0xC1A20008) == 4, "D without SM");
+    b.s.modes = 1;
+    check(step(0xC1A20008) == 4 && step(0xC1E20800) == 4, "D and E without ZA");
+    set_up(4, 0, 1);
+    check(step(0x44BA3820) == 4, "C with SME alone and SM off");
+    b.s.modes = 1;
+    check(step(0x44BA3820) == 0, "C with SME alone and SM on");
+    set_up(2, 0, 1);
+    check(step(0x44BA3820) == 0, "C with SVE2 and SM off");
+    set_up(1, 0, 1);
+    check(step(0x44BA3820) == 3, "C without its features");
+}
+
+static void partners(void)
+{
+    struct second_settings s = {.vl = 128, .features = 31};
+    uint32_t p;
+    check(second_partner(&s, 0x2F726820, &p) == 0 && p == 0x2F722820, "partner of A");
+    check(second_partner(&s, 0x0E228020, &p) == 0 && p == 0x0E22A020, "partner of B");
+    check(second_partner(&s, 0x44BA3820, &p) == 6 && p == 0, "no partner in C");
+    check(second_partner(&s, 0xC1A20008, &p) == 0 && p == 0xC1A20000, "partner of D");
+    check(second_partner(&s, 0xC1E20800, &p) == 0 && p == 0xC1E20808, "partner of E");
+    check(second_partner(&s, 0, &p) == 3 && p == 0, "no partner of no word");
+    s.features = 1;
+    check(second_partner(&s, 0x44BA3820, &p) == 3, "partner: 3 before 6");
+}
+
+/* Each field of a known word in turn takes each of these: what is accepted decodes to just what was given. */
+static void encodes(void)
+{
+    static const uint32_t words[] = {0x2F726820, 0x2FB26820, 0x0E228020, 0x6EA2A020, 0x44BA3820, 0x44F23C20,
+                                     0xC1A20008, 0xC1E50099, 0xC1E20800, 0xC1E10803};
+    static const uint32_t values[] = {0, 1, 2, 3, 4, 5, 6, 7, 8, 9, 11, 12, 15, 16, 28, 30, 31, 32, 33, 64, 128,
+                                      UINT32_MAX};
+    struct second_settings s = {.vl = 128, .features = 31};
+    for (size_t i = 0; i < sizeof words / sizeof *words; i++) {
+        struct second_fields f, g;
+        uint32_t word;
+        check(second_decode(&s, words[i], &f) == 0 && second_encode(&s, &f, &word) == 0 && word == words[i],
+              "encode undoes decode");
+        for (size_t field = 0; field < sizeof f / 4; field++)
+            for (size_t v = 0; v < sizeof values / sizeof *values; v++) {
+                struct second_fields changed = f;
+                memcpy((char *)&changed + 4 * field, &values[v], 4);
+                int refusal = second_encode(&s, &changed, &word);
+                check(refusal == 5 ? word == 0
+                                   : refusal == 0 && second_decode(&s, word, &g) == 0 &&
+                                         memcmp(&g, &changed, sizeof g) == 0,
+                      "decode undoes encode");
+            }
+    }
+    struct second_fields f = {.family = SECOND_FAMILY_D, .lane = 16, .group = 2, .select = 8};
+    uint32_t word;
+    s.features = 12;
+    check(second_encode(&s, &f, &word) == 3 && word == 0, "encode 3");
+    f.offset = 2;
+    check(second_encode(&s, &f, &word) == 5 && word == 0, "encode 5 before 3");
+}
+
+/* Every word under the ten top bytes that the rows allow. The rows' free bits say how many there are: 2 sizes of 20
+ * bits in A, 3 of 18 in B, 2 of 18 in C, and 14 and 12 bits each in D and in E. A slip in a mask would change the
+ * number. */
+static void sweep(void)
+{
+    static const uint32_t tops[] = {0x0E, 0x0F, 0x2E, 0x2F, 0x4E, 0x4F, 0x6E, 0x6F, 0x44, 0xC1};
+    struct second_settings s = {.vl = 128, .features = 31};
+    uint32_t accepted = 0, back = 0;
+    for (size_t i = 0; i < sizeof tops / sizeof *tops; i++)
+        for (uint32_t low = 0; low < 1u << 24; low++) {
+            struct second_fields f;
+            uint32_t word = tops[i] << 24 | low, again;
+            if (second_decode(&s, word, &f) == 0) {
+                accepted++;
+                back += second_encode(&s, &f, &again) == 0 && again == word;
+            }
+        }
+    check(accepted == 2 * (1 << 20) + 5 * (1 << 18) + 2 * (1 << 14) + 2 * (1 << 12), "the number of words");
+    check(back == accepted, "encode undoes decode for all of them");
+}
+
+int selftest_command(void)
+{
+    rows_of_ab();
+    rows_of_c();
+    rows_of_de();
+    lists();
+    numbers();
+    list_settings();
+    list_words();
+    settings_refused();
+    lengths_and_modes();
+    partners();
+    encodes();
+    sweep();
+    if (failures != 0) {
+        printf("%u checks, %u failed\n", checks, failures);
+        return 1;
+    }
+    printf("%u checks ok\n", checks);
+    return 0;
+}
