@@ -1,6 +1,6 @@
 // Holds execute to the answers that the second program, in C, gives for single executions. The cases and its answers
 // are on standard input, made by `second cases`; second/README.md has the line's columns and the kinds of contents.
-ghost use Prim.Native.Nat.{_<_, _≤_};
+ghost use Prim.Native.Nat.{_<_};
 use machine::Executed;
 use settings::Features;
 use settings::Modes;

@@ -12,6 +12,10 @@ elementAt (suc k) at s = elementAt k at s + getD s (at + k) 0 * 256 ^ k
 abbrev pub element : ℕ → List ℕ → ℕ → ℕ
 element k s j = elementAt k (j * k) s
 
+-- the same, in elements of so many bits
+abbrev pub elementOf : ℕ → List ℕ → ℕ → ℕ
+elementOf bits s j = element (bits / 8) s j
+
 -- s with the k low bytes of v written from `at`
 unfoldable pub putAt : ℕ → ℕ → ℕ → List ℕ → List ℕ
 putAt zero at v s = s

@@ -14,7 +14,7 @@ use Rattle.settings.specs.declared.Settings.{Settings}
 use Rattle.words.specs.Ranges.{Ranges}
 use Rattle.words.specs.declared.Fields.{Fields}
 use Rattle.elements.specs.Size.{bytesOf}
-use Rattle.elements.specs.Elements.{element, splice}
+use Rattle.elements.specs.Elements.{element, elementOf, splice}
 use Rattle.elements.proofs.Elements.{Bytes, elementAt-same, Bytes-splice}
 use Rattle.elements.proofs.Vectors.{within}
 use Rattle.elements.proofs.Files.{next, room, length-splice, splice-before, splice-in, splice-after}
@@ -28,11 +28,11 @@ use Rattle.recipes.specs.declared.Recipe.{Recipe}
 use Rattle.recipes.proofs.Built.{whole-elements, length-newBytes, Bytes-newBytes}
 use Rattle.machine.specs.Step.{register, zAfter, stride, firstVector, writesVector, newVector, zaAfter}
 use Rattle.machine.specs.Loop.{place, fresh}
-use Rattle.machine.specs.Theorems.{elementOf, zaVector, Among}
+use Rattle.machine.specs.Theorems.{zaVector, Among}
 use Rattle.machine.proofs.Grid.{row-of, within-row, row-lt, Written, by-row, place-distinct}
 use Rattle.machine.proofs.Array.{IntoZa, grid, tested, passes, placed, array-is}
 use Rattle.machine.proofs.Registers.{new-length, register-is}
-use Rattle.machine.proofs.Sizes.{InBits, newOf, bytes-of-wide, counted-in-bits, element-in-bits}
+use Rattle.recipes.proofs.Sizes.{InBits, newOf, bytes-of-wide, counted-in-bits, element-in-bits}
 
 -- ---- Z
 

@@ -1,16 +1,16 @@
 -- The tests before a step, in their order. Assumes nothing.
-use Prim.Native.Nat.{ℕ, _*_, _≤_}
-use native.Mathlib.Omega.{arith}
-use mathlib.Core.Path.{_≡_, refl, sym, ap, _∙_}
+use Prim.Native.Nat.{ℕ, _*_}
+use mathlib.Core.Path.{_≡_, ap₂}
+use mathlib.Core.Logic.{_≢_}
 use mathlib.Core.Bool.{true, false, _&&_}
 use mathlib.Core.List.{List}
 use lib.Dec.{eqb}
 use lib.ListN.{length}
-use borrow.Author.Tests.{eqb-true, ne-eqb}
+use borrow.Author.Tests.{eqb-true, eq-eqb, ne-eqb}
 use Rattle.laws.proofs.Tests.{both}
 use Rattle.settings.specs.Valid.{validSettings, vectorBytes, arrayBytes}
 use Rattle.settings.specs.declared.Settings.{Settings}
-use Rattle.words.specs.Decode.{noFields, decodeEnabled, decodePaper}
+use Rattle.words.specs.Decode.{decodeEnabled, decodePaper}
 use Rattle.words.specs.Ranges.{Ranges}
 use Rattle.words.specs.declared.Fields.{Fields}
 use Rattle.words.proofs.Answers.{decodes-exactly}
@@ -35,10 +35,18 @@ module _ (s : Settings) (z za : List ℕ) where
   unfolding executePaper
   not-long w v e = rw (v, e)
 
+  -- the test passes where both lengths are exact
+  pub lengths-right : length z ≡ 32 * vectorBytes s → length za ≡ arrayBytes s * arrayBytes s → rightLengths s (length z) (length za) ≡ true
+  lengths-right p q = ap₂ _&&_ (eq-eqb (length z) (32 * vectorBytes s) p) (eq-eqb (length za) (arrayBytes s * arrayBytes s) q)
+
   pub is-ready : validSettings s ≡ true → rightLengths s (length z) (length za) ≡ true → Ready s z za
   is-ready v e =
       let b = both (eqb (length z) (32 * vectorBytes s)) (eqb (length za) (arrayBytes s * arrayBytes s)) e in
-      record { valid = v; z-long = eqb-true _ _ (b .0); za-long = eqb-true _ _ (b .1) }
+      record {
+        valid = v;
+        z-long = eqb-true (length z) (32 * vectorBytes s) (b .0);
+        za-long = eqb-true (length za) (arrayBytes s * arrayBytes s) (b .1);
+      }
 
   pub is-executed : (w : ℕ) → validSettings s ≡ true → rightLengths s (length z) (length za) ≡ true
       → executeDecoded s (decodeEnabled (s .features .0) w) z za ≡ executePaper s w z za
@@ -46,8 +54,8 @@ module _ (s : Settings) (z za : List ℕ) where
   is-executed w v e = rw (v, e)
 
   -- 3
-  pub not-decoded : (w n : ℕ) → decodeEnabled (s .features .0) w ≡ (n, noFields) → 1 ≤ n → refusedWith n z za ≡ executeDecoded s (decodeEnabled (s .features .0) w) z za
-  not-decoded w n e h = rw (e, ne-eqb n 0 (λ (q : n ≡ 0). omega arith))
+  pub not-decoded : (w n : ℕ) → decodeEnabled (s .features .0) w .0 ≡ n → n ≢ 0 → refusedWith n z za ≡ executeDecoded s (decodeEnabled (s .features .0) w) z za
+  not-decoded w n e h = rw (e, ne-eqb n 0 h)
 
   pub is-decoded : (w : ℕ) (f : Fields) → decodeEnabled (s .features .0) w ≡ (0, f) → executeFields s f z za ≡ executeDecoded s (decodeEnabled (s .features .0) w) z za
   is-decoded w f e = rw e

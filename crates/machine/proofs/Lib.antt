@@ -6,7 +6,6 @@ pub mod Vectors
 pub mod Selected
 pub mod Stepping
 pub mod Executing
-pub mod Sizes
 pub mod Effects
 pub mod Outcomes
 pub mod Accepted

@@ -1,9 +1,8 @@
 -- Where a word of ZA writes, by the numbers that the code has. Assumes nothing.
 use Prim.Native.Nat.{ℕ, _+_, _-_, _*_, _/_, _%_, _≤_, _<_}
-use native.Mathlib.Nat.{mod-le}
 use native.Mathlib.Omega.{arith}
-use mathlib.Core.Path.{_≡_, refl, sym, _∙_, subst}
-use mathlib.Core.Logic.{_⊎_, inl, inr}
+use mathlib.Core.Path.{_≡_, _∙_, subst}
+use mathlib.Core.Logic.{inl, inr}
 use mathlib.Core.List.{List}
 use lib.ListN.{getD}
 use Rattle.settings.specs.Valid.{arrayBytes}
@@ -41,24 +40,15 @@ module _ (s : Settings) {f : Fields} {z za out : List ℕ} (p : Places f (arrayB
     some-vectors = rw ek (the-grid .some)
 
     -- the first vector, as the code computes it
-    first : ℕ
+    abbrev first : ℕ
     first = (number + f .offset) % (w / f .group) - (number + f .offset) % (w / f .group) % k
 
-    first-is : first ≡ firstVector s f
-    unfolding first firstVector selected stride
-    first-is = rw (ew, en, ek)
-
-    stride-is : w / f .group ≡ stride s f
-    unfolding stride
-    stride-is = rw ew
-
-    pub ready : Places f w z za out × Grid w (f .group) (w / f .group) k ((number + f .offset) % (w / f .group) - (number + f .offset) % (w / f .group) % k) × (k ≡ perSource (f .family))
-    unfolding first firstVector selected stride
+    pub ready : Places f w z za out × Grid w (f .group) (w / f .group) k first × (k ≡ perSource (f .family))
+    unfolding firstVector selected stride
     ready = (rw ew p, rw (ew, en, ek) the-grid, ek)
 
     pub after : (za′ : List ℕ)
-        → za′ ≡ replaced (place ((number + f .offset) % (w / f .group) - (number + f .offset) % (w / f .group) % k) (w / f .group) k)
-        (fresh f w ((number + f .offset) % (w / f .group) - (number + f .offset) % (w / f .group) % k) (w / f .group) k z za) w (f .group * k) za
+        → za′ ≡ replaced (place first (w / f .group) k) (fresh f w first (w / f .group) k z za) w (f .group * k) za
         → za′ ≡ zaAfter s f z za
     unfolding firstVector selected stride
     after za′ e = e ∙ rw (ew, en, ek) (array-is s (p .sources .width) f (p .sources .ranges) (p .into) z za (p .za-long))

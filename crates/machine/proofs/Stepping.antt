@@ -17,10 +17,10 @@ use Rattle.elements.specs.Files.{vectorAt}
 use Rattle.bits.specs.Bits.{toggled}
 use Rattle.bits.specs.Replace.{Replaced}
 use Rattle.bits.proofs.Bits.{toggled-same}
-use Rattle.recipes.specs.Recipe.{recipeOf, newLength}
+use Rattle.recipes.specs.Recipe.{recipeOf, newLength, perSource}
 use Rattle.recipes.specs.Element.{newBytes}
 use Rattle.machine.specs.Step.{zAfter, zaAfter}
-use Rattle.machine.specs.Execute.{Outcome, writtenBits, steppedBy, stepped, Stepped}
+use Rattle.machine.specs.Execute.{Outcome, counted, writtenBits, steppedBy, stepped, Stepped}
 use Rattle.machine.specs.Loop.{IntoZa, Sources, Places, Ready}
 use Rattle.machine.proofs.Registers.{new-length, register-is}
 
@@ -28,22 +28,35 @@ use Rattle.machine.proofs.Registers.{new-length, register-is}
 abbrev pub IntoZ : Fields → Type 0
 IntoZ f = (f .family ≡ ByElement) ⊎ ((f .family ≡ Vector) ⊎ (f .family ≡ Saturating))
 
--- an outcome that leaves z′ and za′, with the bits that differ counted over both files
-record Leaves (o : Outcome) (z za z′ za′ : List ℕ) : Type 0 where
-  z-is : o .z ≡ z′
-  za-is : o .za ≡ za′
-  toggled-is : o .toggled ≡ toggled z z′ + toggled za za′
+-- every family is of one kind or the other
+pub which-file : (f : Fields) → IntoZ f ⊎ IntoZa f
+which-file f = by (f .family) refl
+  where
+    by : (family : Family) → f .family ≡ family → IntoZ f ⊎ IntoZa f
+    by ByElement e = inl (inl e)
+    by Vector e = inl (inr (inl e))
+    by Saturating e = inl (inr (inr e))
+    by LongLong e = inr (inl e)
+    by Long e = inr (inr e)
 
-stepped-z : (s : Settings) (f : Fields) (z za : List ℕ) → IntoZ f → Leaves (stepped s f z za) z za (zAfter s f z) za
-unfolding stepped
-stepped-z s f z za (inl e) = record { z-is = rw e; za-is = rw e; toggled-is = rw e }
-stepped-z s f z za (inr (inl e)) = record { z-is = rw e; za-is = rw e; toggled-is = rw e }
-stepped-z s f z za (inr (inr e)) = record { z-is = rw e; za-is = rw e; toggled-is = rw e }
+-- what the step is of either kind
+module _ (s : Settings) (f : Fields) (z za : List ℕ) where
+  abbrev pub steppedZ : Outcome
+  steppedZ = counted (8 * newLength (f .family) (vectorBytes s)) z za (zAfter s f z) za
 
-stepped-za : (s : Settings) (f : Fields) (z za : List ℕ) → IntoZa f → Leaves (stepped s f z za) z za z (zaAfter s f z za)
-unfolding stepped
-stepped-za s f z za (inl e) = record { z-is = rw e; za-is = rw e; toggled-is = rw e }
-stepped-za s f z za (inr e) = record { z-is = rw e; za-is = rw e; toggled-is = rw e }
+  abbrev pub steppedZa : Outcome
+  steppedZa = counted (8 * vectorBytes s * f .group * perSource (f .family)) z za z (zaAfter s f z za)
+
+  pub stepped-z : IntoZ f → stepped s f z za ≡ steppedZ
+  unfolding stepped
+  stepped-z (inl e) = rw e
+  stepped-z (inr (inl e)) = rw e
+  stepped-z (inr (inr e)) = rw e
+
+  pub stepped-za : IntoZa f → stepped s f z za ≡ steppedZa
+  unfolding stepped
+  stepped-za (inl e) = rw e
+  stepped-za (inr e) = rw e
 
 module _ (s : Settings) (f : Fields) (z za out : List ℕ) (p : Ready s z za) (g : Ranges f) (w : ℕ) (ew : w ≡ vectorBytes s) where
   pub sources-of : length out ≡ newLength (f .family) w → Sources f w z out
@@ -73,18 +86,18 @@ module _ (s : Settings) (f : Fields) (z za out : List ℕ) (p : Ready s z za) (g
       let q = stepped-z s f z za i in
       let e : z′ ≡ zAfter s f z = r′ .after ∙ register-is s (vector-length s (p .valid)) f g z (p .z-long) in
       record {
-        z-after = e ∙ sym (q .z-is);
-        za-after = sym (q .za-is);
-        bits = r′ .bits ∙ ap (toggled z) e ∙ sym (q .toggled-is ∙ ap (λ (n : ℕ). toggled z (zAfter s f z) + n) (toggled-same za) ∙ add-zero (toggled z (zAfter s f z)));
+        z-after = e ∙ sym (ap (λ (o : Outcome). o .z) q);
+        za-after = sym (ap (λ (o : Outcome). o .za) q);
+        bits = r′ .bits ∙ ap (toggled z) e ∙ sym (ap (λ (o : Outcome). o .toggled) q ∙ ap (λ (n : ℕ). toggled z (zAfter s f z) + n) (toggled-same za) ∙ add-zero (toggled z (zAfter s f z)));
       }
 
   pub za-done : IntoZa f → (t : ℕ) (za′ : List ℕ) → za′ ≡ zaAfter s f z za → t ≡ toggled za za′ → Stepped s f t z za z za′
   za-done i t za′ e b =
       let q = stepped-za s f z za i in
       record {
-        z-after = sym (q .z-is);
-        za-after = e ∙ sym (q .za-is);
-        bits = b ∙ ap (toggled za) e ∙ sym (q .toggled-is ∙ ap (λ (n : ℕ). n + toggled za (zaAfter s f z za)) (toggled-same z) ∙ zero-add (toggled za (zaAfter s f z za)));
+        z-after = sym (ap (λ (o : Outcome). o .z) q);
+        za-after = e ∙ sym (ap (λ (o : Outcome). o .za) q);
+        bits = b ∙ ap (toggled za) e ∙ sym (ap (λ (o : Outcome). o .toggled) q ∙ ap (λ (n : ℕ). n + toggled za (zaAfter s f z za)) (toggled-same z) ∙ zero-add (toggled za (zaAfter s f z za)));
       }
 
 -- ---- the written bits

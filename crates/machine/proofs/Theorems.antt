@@ -1,15 +1,12 @@
 -- The statements of specs/Theorems.antt, proved. Assumes nothing.
-use Prim.Native.Nat.{ℕ, _*_, _/_}
+use Prim.Native.Nat.{ℕ, _*_}
 use native.Mathlib.Omega.{arith}
 use mathlib.Core.Path.{_≡_, refl, sym, ap, _∙_, subst}
 use mathlib.Core.Logic.{inl, inr, ⊎-elim, _≢_}
-use mathlib.Core.Bool.{Bool, true, _&&_, _||_}
 use mathlib.Core.List.{List}
-use lib.Dec.{eqb}
-use borrow.Author.Tests.{eqb-true}
-use Rattle.laws.proofs.Tests.{both, either}
-use Rattle.settings.specs.Valid.{validLength, validFeatures, validModes, validSettings, vectorBytes, arrayBytes}
+use Rattle.settings.specs.Valid.{vectorBytes}
 use Rattle.settings.specs.declared.Settings.{Settings}
+use Rattle.settings.proofs.Lengths.{vector-bits, same-length}
 use Rattle.words.specs.declared.Family.{Family}
 use Rattle.words.specs.declared.Family.the-variants.{ByElement, Vector, Saturating, LongLong, Long}
 use Rattle.words.specs.declared.Fields.{Fields}
@@ -27,18 +24,8 @@ use Rattle.machine.proofs.Accepted.{elements-a, elements-b, elements-c,
 
 -- ---- VL
 
-in-bytes : (vl : ℕ) → validLength vl ≡ true → 8 * (vl / 8) ≡ vl
-in-bytes vl e =
-    either (eqb vl 128 || eqb vl 256) (eqb vl 512) e
-    (λ p. either (eqb vl 128) (eqb vl 256) p (λ q. omega (arith, eqb-true vl 128 q)) (λ q. omega (arith, eqb-true vl 256 q)))
-    (λ q. omega (arith, eqb-true vl 512 q))
-
 pub length-is-vl : LengthIsVL
-unfolding validSettings vectorBytes arrayBytes
-length-is-vl s e =
-    let features : Bool = validFeatures (s .features .0) in
-    let l = both (validLength (s .vl)) features (both (validLength (s .vl) && features) (validModes (s .features .0) (s .modes .0)) e .0) .0 in
-    (in-bytes (s .vl) l, in-bytes (s .vl) l)
+length-is-vl s v = (vector-bits s v, ap (λ (n : ℕ). 8 * n) (same-length s) ∙ vector-bits s v)
 
 -- ---- which words are accepted, and how the others are refused
 

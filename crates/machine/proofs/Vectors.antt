@@ -1,28 +1,25 @@
 -- The turns of the loop over a word's vectors of ZA. Assumes nothing.
-use Prim.Native.Nat.{ℕ, zero, suc, _+_, _*_, _/_, _%_, _≤_, _<_}
+use Prim.Native.Nat.{ℕ, suc, _+_, _*_, _/_, _%_, _≤_, _<_}
 use native.Mathlib.Nat.{add-mul, one-mul, mod-lt, mul-le-mul-right, div-lt-iff-lt-mul}
 use native.Mathlib.Numerals.{add-one}
 use native.Mathlib.Omega.{arith}
-use mathlib.Core.Path.{_≡_, refl, sym, ap, ap₂, _∙_, subst}
+use mathlib.Core.Path.{_≡_, sym, ap, ap₂, _∙_}
 use mathlib.Core.Logic.{_⊎_, inl, inr}
 use mathlib.Core.List.{List}
 use lib.Bits.{differ}
 use lib.ListN.{length}
-use Rattle.words.specs.Ranges.{Ranges, OfFamily}
-use Rattle.words.specs.declared.Family.{Family}
-use Rattle.words.specs.declared.Family.the-variants.{LongLong, Long}
 use Rattle.words.specs.declared.Fields.{Fields}
 use Rattle.elements.specs.Elements.{splice}
 use Rattle.elements.specs.Files.{vectorAt, replaced}
-use Rattle.elements.proofs.Files.{Placed, fewer, length-replaced, replaced-out}
-use Rattle.bits.specs.Bits.{overBytes, toggled}
+use Rattle.elements.proofs.Files.{Placed, length-replaced, replaced-out}
+use Rattle.bits.specs.Bits.{toggled}
 use Rattle.bits.specs.Replace.{Replaced}
 use Rattle.bits.proofs.Bits.{differ-unmoved}
 use Rattle.bits.proofs.Files.{bytes-replaced}
 use Rattle.recipes.specs.Recipe.{recipeOf, perSource}
 use Rattle.recipes.specs.Element.{newBytes}
 use Rattle.recipes.proofs.Built.{length-newBytes}
-use Rattle.machine.specs.Loop.{Grid, place, fresh, IntoZa, Places}
+use Rattle.machine.specs.Loop.{Grid, place, fresh, Places}
 use Rattle.machine.proofs.Grid.{place-lt, place-distinct}
 use Rattle.machine.proofs.Array.{za-facts}
 

@@ -12,7 +12,7 @@ use Rattle.words.specs.Ranges.{Ranges}
 use Rattle.words.specs.declared.Family.the-variants.{LongLong, Long}
 use Rattle.words.specs.declared.Fields.{Fields}
 use Rattle.elements.specs.Files.{vectorAt}
-use Rattle.recipes.specs.Recipe.{recipeOf, newLength, perSource}
+use Rattle.recipes.specs.Recipe.{recipeOf, newLength}
 use Rattle.recipes.specs.Element.{newBytes}
 
 -- w vectors are `group` rows of `stride`; in each row, k of them from `first` on

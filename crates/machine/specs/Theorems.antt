@@ -11,7 +11,7 @@ use Rattle.words.specs.Decode.{decodeEnabled}
 use Rattle.words.specs.declared.Family.{Family}
 use Rattle.words.specs.declared.Family.the-variants.{ByElement, Vector, Saturating, LongLong, Long}
 use Rattle.words.specs.declared.Fields.{Fields}
-use Rattle.elements.specs.Elements.{element}
+use Rattle.elements.specs.Elements.{elementOf}
 use Rattle.elements.specs.Files.{vectorAt}
 use Rattle.lanes.specs.Lane.{laneStep, satStep}
 use Rattle.bits.specs.Bits.{toggled}
@@ -26,10 +26,6 @@ VL s = 8 * vectorBytes s
 -- it is the settings' own; a vector of ZA is as long
 abbrev pub LengthIsVL : Type 0
 LengthIsVL = (s : Settings) → validSettings s ≡ true → (VL s ≡ s .vl) × (8 * arrayBytes s ≡ s .vl)
-
--- element e of a vector, in elements of so many bits
-abbrev pub elementOf : ℕ → List ℕ → ℕ → ℕ
-elementOf bits v e = element (bits / 8) v e
 
 -- vector v of ZA
 abbrev pub zaVector : Settings → List ℕ → ℕ → List ℕ

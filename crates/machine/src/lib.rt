@@ -9,7 +9,7 @@ ghost use Rattle.bits.specs.Replace.{Replaced};
 ghost use Rattle.recipes.specs.Recipe.{recipeOf, newLength, perSource};
 ghost use Rattle.recipes.specs.Element.{newBytes};
 ghost use Rattle.machine.specs.Modes.{permits};
-ghost use Rattle.machine.specs.Step.{zAfter, zaAfter};
+ghost use Rattle.machine.specs.Step.{zaAfter};
 ghost use Rattle.machine.specs.Loop.{Grid, place, fresh, Sources, Places, Ready};
 ghost use Rattle.machine.specs.Execute.{executedSays, writtenBits, stepped, Stepped, executeFields, executeDecoded, rightLengths, executePaper};
 ghost use Rattle.machine.specs.declared.Executed.the-variants.{Done};

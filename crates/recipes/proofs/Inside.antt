@@ -1,10 +1,9 @@
 -- Every element that a recipe takes lies in its register, and what lies beyond the register does not count. Assumes nothing.
 use Prim.Native.Nat.{ℕ, _+_, _-_, _*_, _/_, _%_, _≤_, _<_}
 use native.Mathlib.Omega.{arith}
-use mathlib.Core.Path.{_≡_, refl, sym, ap, _∙_, subst}
+use mathlib.Core.Path.{_≡_, refl}
 use mathlib.Core.Logic.{_⊎_, inl, inr}
-use mathlib.Core.Bool.{Bool, true, false, cond}
-use mathlib.Core.List.{List}
+use mathlib.Core.Bool.{cond}
 use lib.Dec.{eqb}
 use Rattle.laws.proofs.Tests.{cond-holds}
 use Rattle.settings.specs.Lengths.{VectorLength}
@@ -12,14 +11,13 @@ use Rattle.words.specs.Ranges.{Ranges, OfFamily}
 use Rattle.words.specs.declared.Family.{Family}
 use Rattle.words.specs.declared.Family.the-variants.{ByElement, Vector, Saturating, LongLong, Long}
 use Rattle.words.specs.declared.Fields.{Fields}
-use Rattle.elements.specs.Size.{bitsOf, bytesOf, perHalf}
+use Rattle.elements.specs.Size.{bitsOf, bytesOf}
 use Rattle.elements.specs.declared.Size.{Size}
-use Rattle.elements.specs.declared.Size.the-variants.{Bits8, Bits16, Bits32, Bits64}
-use Rattle.recipes.specs.Recipe.{sizeOf, doubled, each, eachSegment, halfOf, recipe, recipeOf, newLength, perSource}
+use Rattle.elements.specs.declared.Size.the-variants.{Bits8, Bits16, Bits32}
+use Rattle.recipes.specs.Recipe.{sizeOf, doubled, each, eachSegment, halfOf, recipeOf, newLength, perSource}
 use Rattle.recipes.specs.Element.{chosen}
-use Rattle.recipes.specs.Places.{Wider, Inside}
+use Rattle.recipes.specs.Places.{Inside}
 use Rattle.recipes.specs.declared.Choice.{Choice}
-use Rattle.recipes.specs.declared.Recipe.{Recipe}
 
 -- what holds of the three sizes of a lane holds of the size of any
 lane-sizes {ℓ} : (P : Size → Type ℓ) → P Bits8 → P Bits16 → P Bits32 → (lane : ℕ) → P (sizeOf lane)

@@ -3,3 +3,4 @@ pub mod Built
 pub mod Choosing
 pub mod Steps
 pub mod Turns
+pub mod Sizes

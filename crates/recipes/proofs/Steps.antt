@@ -1,7 +1,7 @@
 -- What the reads and the arithmetic of one element come to. Assumes nothing.
 use Prim.Native.Nat.{ℕ, _+_, _*_, _≤_}
 use native.Mathlib.Omega.{arith}
-use mathlib.Core.Path.{_≡_, refl, sym, ap, _∙_}
+use mathlib.Core.Path.{_≡_, sym, _∙_}
 use mathlib.Core.List.{List}
 use lib.ListN.{drop}
 use Rattle.elements.specs.Size.{bitsOf, bytesOf}

@@ -1,8 +1,7 @@
 -- A written vector, element by element.
 use Prim.Native.Nat.{ℕ, _+_, _-_, _*_, _/_, _%_}
 use mathlib.Core.Bool.{cond}
-use mathlib.Core.List.{List, _++_}
-use lib.ListN.{drop}
+use mathlib.Core.List.{List}
 use Rattle.elements.specs.Size.{bitsOf, bytesOf, perHalf}
 use Rattle.elements.specs.Elements.{element, vector}
 use Rattle.elements.specs.declared.Size.{Size}

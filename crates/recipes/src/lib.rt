@@ -1,8 +1,6 @@
 ghost use mathlib.Core.Path.{_≡_};
-ghost use Prim.Native.Nat.{_+_, _*_, _-_, _%_, _/_, _≤_, _<_, _^_};
+ghost use Prim.Native.Nat.{_+_, _*_, _-_, _%_, _/_, _<_, _^_};
 ghost use lib.ListN.{length, drop};
-ghost use Rattle.elements.specs.Size.{bytesOf, perHalf};
-ghost use Rattle.elements.specs.Elements.{vector};
 ghost use Rattle.recipes.specs.Recipe.{sizeOf, doubled, each, eachSegment, halfOf, recipe as recipePaper, recipeOf};
 ghost use Rattle.recipes.specs.Element.{segmentStart, chosen as chosenPaper, newElement, newBytes};
 ghost use Rattle.recipes.specs.Places.{ElementPlaces, VectorPlaces};

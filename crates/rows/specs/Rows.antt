@@ -1,5 +1,5 @@
 -- Document 01, "Lines to try on the bench": the rows marked P, as one table, and one statement that each answer is what the definitions give.
-use Prim.Native.Nat.{ℕ, zero, suc, _*_}
+use Prim.Native.Nat.{ℕ, zero, suc}
 use Prim.Native.String.{String}
 use mathlib.Core.Path.{_≡_, refl}
 use mathlib.Core.Bool.{true, false, cond}

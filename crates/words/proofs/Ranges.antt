@@ -1,5 +1,5 @@
 -- The fields of a described word are in range: of each row, from the text of its layout. Assumes nothing.
-use Prim.Native.Nat.{ℕ, zero, suc, _+_, _*_, _/_, _%_, _^_, _<_, _≤_}
+use Prim.Native.Nat.{ℕ, zero, suc, _+_, _*_, _/_, _%_, _^_, _<_}
 use native.Mathlib.Omega.{arith}
 use mathlib.Core.Path.{_≡_, refl, subst}
 use mathlib.Core.Logic.{_⊎_, inl, inr}
@@ -10,8 +10,8 @@ use borrow.Author.Tests.{eqb-false}
 use Rattle.laws.proofs.Lists.{Each}
 use Rattle.laws.proofs.Tests.{by-cond, cond-holds}
 use Rattle.layouts.specs.Layout.{matches}
-use Rattle.words.specs.Rows.{rowA, rowB, rowC16, rowC32, rowD2, rowD4, rowE2, rowE4}
-use Rattle.words.specs.Says.{Row, table, entryA, entryB, entry, fieldsA16, fieldsA32, fieldsA, fieldsB, fieldsC, fieldsD, fieldsE, saysOf, saysFirst, describe}
+use Rattle.words.specs.Rows.{rowC16, rowC32, rowD2, rowD4, rowE2, rowE4}
+use Rattle.words.specs.Says.{Row, table, entryA, entryB, entry, fieldsA16, fieldsA32, fieldsC, fieldsD, fieldsE, saysOf, saysFirst, describe}
 use Rattle.words.specs.Ranges.{Ranges}
 use Rattle.words.specs.declared.Fields.{Fields}
 use Rattle.words.specs.declared.Described.the-variants.{As, Nothing}

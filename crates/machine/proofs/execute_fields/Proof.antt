@@ -1,6 +1,5 @@
 -- `machine::execute_fields` meets its contract. Assumes nothing.
 use mathlib.Core.Path.{sym, _∙_}
-use native.Mathlib.Omega.{arith}
 use borrow.Author.Needs.{needs}
 use Rattle.laws.proofs.Tests.{refuted, upheld}
 use Rattle.settings.proofs.Lengths.{vector-at-most}

@@ -1,8 +1,11 @@
 -- `machine::execute_word` meets its contract. Assumes nothing.
+use Prim.Native.Nat.{ℕ}
+use native.Mathlib.Omega.{arith}
 use mathlib.Core.Path.{sym, ap, _∙_}
 use borrow.Author.Needs.{needs}
 use Rattle.settings.proofs.Refusals.{refusal-not-0}
 use Rattle.words.specs.Decode.{decodedSays}
+use Rattle.words.specs.declared.Fields.{Fields}
 use Rattle.machine.proofs.Executing.{word-ranges, not-decoded, is-decoded}
 use Rattle.machine.proofs.execute_word.Statement.{statement}
 use Rattle.machine.proofs.execute_word.Tie as tie
@@ -42,7 +45,9 @@ returns-2 c =
     let m = c .before in
     let d = m .before .before in
     let s = d .before .before .before .before in
-    not-decoded (s .args .settings) (s .args .z .now) (s .args .za .now) (s .args .word) _ (sym (d .decode-enabled .ensures) ∙ ap decodedSays (m .refusal .given .1)) (refusal-not-0 (m .refusal .given .0 .0))
+    not-decoded (s .args .settings) (s .args .z .now) (s .args .za .now) (s .args .word) _
+    (ap (λ (p : ℕ × Fields). p .0) (sym (d .decode-enabled .ensures) ∙ ap decodedSays (m .refusal .given .1)))
+    (λ e. let h = refusal-not-0 (m .refusal .given .0 .0) in omega arith)
 
 pub execute-word-spec : {M : Type 1} → statement M
 execute-word-spec =

@@ -1,9 +1,8 @@
 -- `machine::step_files` meets its contract, family by family. Assumes nothing.
-use mathlib.Core.Path.{_≡_, refl, sym, ap}
+use mathlib.Core.Path.{sym, ap}
 use mathlib.Core.Logic.{inl, inr}
 use borrow.Author.Needs.{needs}
 use Rattle.recipes.specs.Recipe.{perSource}
-use Rattle.words.specs.declared.Family.{Family}
 use Rattle.machine.proofs.Stepping.{sources-of, places-of, z-done, za-done}
 use Rattle.machine.proofs.step_files.Statement.{statement}
 use Rattle.machine.proofs.step_files.Tie as tie

@@ -1,6 +1,6 @@
 -- `machine::step_vectors` meets its contract. Assumes nothing.
 use mathlib.Core.Path.{_≡_, refl, sym, ap, _∙_, subst}
-use Prim.Native.Nat.{ℕ, _+_, _-_, _*_, _/_, _%_, _≤_, _<_}
+use Prim.Native.Nat.{ℕ, _+_, _-_, _*_, _%_, _≤_, _<_}
 use native.Mathlib.Omega.{arith}
 use lib.ListN.{length}
 use borrow.Author.Needs.{needs}
@@ -9,7 +9,7 @@ use Rattle.bits.specs.Bits.{toggled}
 use Rattle.bits.proofs.Bits.{toggled-same}
 use Rattle.machine.specs.Loop.{place, fresh}
 use Rattle.machine.proofs.Grid.{place-lt}
-use Rattle.machine.proofs.Vectors.{few-vectors, row-lt, part-lt, length-so-far, Turned, turn, again, count-next}
+use Rattle.machine.proofs.Vectors.{few-vectors, row-lt, part-lt, Turned, turn, again, count-next}
 use Rattle.machine.proofs.step_vectors.Statement.{statement}
 use Rattle.machine.proofs.step_vectors.Tie as tie
 

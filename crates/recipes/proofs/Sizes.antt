@@ -6,17 +6,16 @@ use mathlib.Core.Path.{_≡_, refl, sym, ap, _∙_}
 use mathlib.Core.Logic.{_⊎_, inl, inr}
 use mathlib.Core.List.{List}
 use Rattle.elements.specs.Size.{bitsOf, bytesOf, perHalf}
-use Rattle.elements.specs.Elements.{element}
+use Rattle.elements.specs.Elements.{element, elementOf}
 use Rattle.elements.specs.declared.Size.{Size}
 use Rattle.elements.specs.declared.Size.the-variants.{Bits8, Bits16, Bits32, Bits64}
 use Rattle.elements.proofs.Elements.{pow256}
 use Rattle.elements.proofs.Vectors.{vector-element}
 use Rattle.lanes.specs.Lane.{step}
 use Rattle.lanes.proofs.Laws.{step-lt}
 use Rattle.recipes.specs.Recipe.{sizeOf, doubled}
 use Rattle.recipes.specs.Element.{chosen, newElement, newBytes}
 use Rattle.recipes.specs.declared.Recipe.{Recipe}
-use Rattle.machine.specs.Theorems.{elementOf}
 
 -- ---- sizes in bits
 
