@@ -11,7 +11,7 @@ use lib.ListN.{length}
 use Rattle.words.specs.declared.Fields.{Fields}
 use Rattle.elements.specs.Elements.{splice}
 use Rattle.elements.specs.Files.{vectorAt, replaced}
-use Rattle.elements.proofs.Files.{Placed, length-replaced, replaced-out}
+use Rattle.elements.proofs.Files.{Placed, replaced-out}
 use Rattle.bits.specs.Bits.{toggled}
 use Rattle.bits.specs.Replace.{Replaced}
 use Rattle.bits.proofs.Bits.{differ-unmoved}
@@ -55,9 +55,6 @@ module _ {f : Fields} {w : ℕ} {z za₀ out : List ℕ} (p : Places f w z za₀
         inside = λ q l. place-lt g q (omega arith);
         wide = λ q l. length-newBytes _ w _ _ _ (omega (arith, p .sources .width .whole));
       }
-
-  pub length-so-far : (q : ℕ) → q ≤ f .group * k → length (replaced at new w q za₀) ≡ length za₀
-  length-so-far q h = length-replaced at new w w za₀ q (placed-to q h)
 
   -- vector q is as it was until its turn
   not-yet : (q : ℕ) → q < f .group * k → vectorAt w (at q) (replaced at new w q za₀) ≡ vectorAt w (at q) za₀
