@@ -22,7 +22,7 @@ use Rattle.recipes.specs.Places.{Inside, VectorPlaces}
 use Rattle.recipes.specs.declared.Recipe.{Recipe}
 use Rattle.recipes.proofs.Inside.{inside}
 use Rattle.recipes.proofs.Built.{newBytes-within}
-use Rattle.machine.specs.Loop.{IntoZa, Sources, Places}
+use Rattle.machine.specs.Loop.{made, IntoZa, Sources, Places}
 
 -- one of the 32 registers ends by byte 8,192; one of the vectors of ZA by byte 65,536
 pub register-small : {w : ℕ} → VectorLength w → (x : ℕ) → x < 32 → x * w + w ≤ 8192
@@ -89,7 +89,7 @@ module _ {f : Fields} {w : ℕ} {z out₀ : List ℕ} (p : Sources f w z out₀)
 
         -- what the loop built is made of the registers alone, and is put into its place
         pub step-renewal : (n : ℕ) → newLength (f .family) w ≡ n → (a′ : List ℕ) (t : ℕ) → out ≡ newBytes r (length out₀) (drop (v * w) a) (drop (x * w) z) (drop (y * w) z) → Replaced (v * w) t out a a′
-            → Replaced (v * w) t (newBytes (recipeOf (f .family) f i) n (vectorAt w v a) (vectorAt w x z) (vectorAt w y z)) a a′
+            → Replaced (v * w) t (made f i n w v a x y z) a a′
         unfolding vectorAt
         step-renewal n en a′ t e =
             subst (λ (new : List ℕ). Replaced (v * w) t new a a′)

@@ -13,15 +13,13 @@ use Rattle.words.specs.Ranges.{Ranges}
 use Rattle.words.specs.declared.Family.{Family}
 use Rattle.words.specs.declared.Family.the-variants.{ByElement, Vector, Saturating, LongLong, Long}
 use Rattle.words.specs.declared.Fields.{Fields}
-use Rattle.elements.specs.Files.{vectorAt}
 use Rattle.bits.specs.Bits.{toggled}
 use Rattle.bits.specs.Replace.{Replaced}
 use Rattle.bits.proofs.Bits.{toggled-same}
-use Rattle.recipes.specs.Recipe.{recipeOf, newLength, perSource}
-use Rattle.recipes.specs.Element.{newBytes}
+use Rattle.recipes.specs.Recipe.{newLength, perSource}
 use Rattle.machine.specs.Step.{zAfter, zaAfter}
 use Rattle.machine.specs.Execute.{Outcome, counted, writtenBits, steppedBy, stepped, Stepped}
-use Rattle.machine.specs.Loop.{IntoZa, Sources, Places, Ready}
+use Rattle.machine.specs.Loop.{made, IntoZa, Sources, Places, Ready}
 use Rattle.machine.proofs.Registers.{new-length, register-is}
 
 -- A, B and C
@@ -78,11 +76,11 @@ module _ (s : Settings) (f : Fields) (z za out : List ℕ) (p : Ready s z za) (g
       }
 
   pub z-done : IntoZ f → (t : ℕ) (z′ : List ℕ)
-      → Replaced (f .destination * w) t (newBytes (recipeOf (f .family) f 0) (newLength (f .family) w) (vectorAt w (f .destination) z) (vectorAt w (f .first) z) (vectorAt w (f .second) z)) z z′
+      → Replaced (f .destination * w) t (made f 0 (newLength (f .family) w) w (f .destination) z (f .first) (f .second) z) z z′
       → Stepped s f t z za z′ za
   z-done i t z′ r =
       let r′ =
-      subst (λ (x : ℕ). Replaced (f .destination * x) t (newBytes (recipeOf (f .family) f 0) (newLength (f .family) x) (vectorAt x (f .destination) z) (vectorAt x (f .first) z) (vectorAt x (f .second) z)) z z′) ew r in
+      subst (λ (x : ℕ). Replaced (f .destination * x) t (made f 0 (newLength (f .family) x) x (f .destination) z (f .first) (f .second) z) z z′) ew r in
       let q = stepped-z s f z za i in
       let e : z′ ≡ zAfter s f z = r′ .after ∙ register-is s (vector-length s (p .valid)) f g z (p .z-long) in
       record {

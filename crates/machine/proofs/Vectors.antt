@@ -19,7 +19,7 @@ use Rattle.bits.proofs.Files.{bytes-replaced}
 use Rattle.recipes.specs.Recipe.{recipeOf, perSource}
 use Rattle.recipes.specs.Element.{newBytes}
 use Rattle.recipes.proofs.Built.{length-newBytes}
-use Rattle.machine.specs.Loop.{Grid, place, fresh, Places}
+use Rattle.machine.specs.Loop.{made, Grid, place, fresh, Places}
 use Rattle.machine.proofs.Grid.{place-lt, place-distinct}
 use Rattle.machine.proofs.Array.{za-facts}
 
@@ -68,7 +68,7 @@ module _ {f : Fields} {w : ℕ} {z za₀ out : List ℕ} (p : Places f w z za₀
     pub few : d ≤ 8 * w
 
   pub turn : (q t d v : ℕ) (za za′ : List ℕ) → q < f .group * k → za ≡ replaced at new w q za₀ → t ≡ toggled za₀ za → v ≡ at q
-      → Replaced (v * w) d (newBytes (recipeOf (f .family) f (q % k)) w (vectorAt w v za) (vectorAt w (f .first + q / k) z) (vectorAt w (f .second + q / k) z)) za za′
+      → Replaced (v * w) d (made f (q % k) w w v za (f .first + q / k) (f .second + q / k) z) za za′
       → Turned q t d za′
   unfolding fresh replaced
   turn q t d v za za′ h e et ev r =

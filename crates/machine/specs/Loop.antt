@@ -21,15 +21,18 @@ pub record Grid (w group stride k first : ℕ) : Type 0 where
   pub some : 0 < k
   pub fits : first + k ≤ stride
 
--- the q-th vector: r is q / k and i is q % k
+-- the n new bytes of vector v of the file a, by the recipe of i and of Z registers x and y; vectors have w bytes
+abbrev pub made : Fields → ℕ → ℕ → ℕ → ℕ → List ℕ → ℕ → ℕ → List ℕ → List ℕ
+made f i n w v a x y z = newBytes (recipeOf (f .family) f i) n (vectorAt w v a) (vectorAt w x z) (vectorAt w y z)
+
+-- the q-th vector that a word of ZA writes: r is q / k and i is q % k
 unfoldable pub place : ℕ → ℕ → ℕ → ℕ → ℕ
 place first stride k q = first + q / k * stride + q % k
 
--- what it becomes, where ZA was za, in vectors of w bytes
+-- what it becomes, where ZA was za
 unfoldable pub fresh : Fields → ℕ → ℕ → ℕ → ℕ → List ℕ → List ℕ → ℕ → List ℕ
 unfolding place
-fresh f w first stride k z za q =
-    newBytes (recipeOf (f .family) f (q % k)) w (vectorAt w (place first stride k q) za) (vectorAt w (f .first + q / k) z) (vectorAt w (f .second + q / k) z)
+fresh f w first stride k z za q = made f (q % k) w w (place first stride k q) za (f .first + q / k) (f .second + q / k) z
 
 -- D and E
 abbrev pub IntoZa : Fields → Type 0

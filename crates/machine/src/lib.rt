@@ -3,14 +3,13 @@ ghost use mathlib.Core.Bool.{true};
 ghost use Prim.Native.Nat.{_+_, _-_, _*_, _/_, _%_, _≤_, _<_};
 ghost use lib.ListN.{length};
 ghost use Rattle.settings.specs.Valid.{validSettings, vectorBytes, arrayBytes};
-ghost use Rattle.elements.specs.Files.{vectorAt, replaced};
+ghost use Rattle.elements.specs.Files.{replaced};
 ghost use Rattle.bits.specs.Bits.{toggled};
 ghost use Rattle.bits.specs.Replace.{Replaced};
-ghost use Rattle.recipes.specs.Recipe.{recipeOf, newLength, perSource};
-ghost use Rattle.recipes.specs.Element.{newBytes};
+ghost use Rattle.recipes.specs.Recipe.{newLength, perSource};
 ghost use Rattle.machine.specs.Modes.{permits};
 ghost use Rattle.machine.specs.Step.{zaAfter};
-ghost use Rattle.machine.specs.Loop.{Grid, place, fresh, Sources, Places, Ready};
+ghost use Rattle.machine.specs.Loop.{made, Grid, place, fresh, Sources, Places, Ready};
 ghost use Rattle.machine.specs.Execute.{executedSays, writtenBits, stepped, Stepped, executeFields, executeDecoded, rightLengths, executePaper};
 ghost use Rattle.machine.specs.declared.Executed.the-variants.{Done};
 ghost use Rattle.words.specs.Ranges.{Ranges};
@@ -39,7 +38,7 @@ pub enum Executed {
 fn step_register(fields: Fields, w: usize, z: &mut [u8], out: &mut [u8]) -> u32
     requires { ⌜ Sources fields w (now z) (now out) ⌝ }
     ensures { λ t. ⌜ Replaced (fields .destination * w) t
-        (newBytes (recipeOf (fields .family) fields 0) (newLength (fields .family) w) (vectorAt w (fields .destination) (now (z .entry))) (vectorAt w (fields .first) (now (z .entry))) (vectorAt w (fields .second) (now (z .entry))))
+        (made fields 0 (newLength (fields .family) w) w (fields .destination) (now (z .entry)) (fields .first) (fields .second) (now (z .entry)))
         (now (z .entry)) (now (z .exit)) ⌝ }
 {
     let recipe = recipes::recipe_of(fields, 0);
@@ -64,7 +63,7 @@ fn step_vector(
     requires { ⌜ Places fields w (now z) (now za) (now out) ⌝ }
     requires { ⌜ (v < w) × (r < fields .group) × (i < perSource (fields .family)) ⌝ }
     ensures { λ t. ⌜ Replaced (v * w) t
-        (newBytes (recipeOf (fields .family) fields i) w (vectorAt w v (now (za .entry))) (vectorAt w (fields .first + r) (now (z .entry))) (vectorAt w (fields .second + r) (now (z .entry))))
+        (made fields i w w v (now (za .entry)) (fields .first + r) (fields .second + r) (now (z .entry)))
         (now (za .entry)) (now (za .exit)) ⌝ }
 {
     let recipe = recipes::recipe_of(fields, i);
