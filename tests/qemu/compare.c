@@ -1,17 +1,19 @@
-/* Runs words of A, B and C on an emulated Arm machine and in the second program, and compares.
+/* Runs words on an emulated Arm machine and in the second program, and compares.
  *
- * It is built for Arm and runs in the emulator, with the second program linked in. D and E are left out: they need
- * SME2, which this emulator lacks. */
+ * It is built for Arm and runs in the emulator, with the second program linked in. D and E need SME2: where the
+ * emulator lacks it, they are skipped, and the tool says so. */
 #define _GNU_SOURCE
 #include "../../second/second.h"
 
 #include <stdio.h>
 #include <stdlib.h>
 #include <string.h>
+#include <sys/auxv.h>
 #include <sys/mman.h>
 #include <sys/prctl.h>
 
 void step(uint8_t *z, const void *code);
+void step_za(uint8_t *z, const void *code, uint8_t *za, const uint32_t *w);
 
 enum {
     CONTENTS = 16, /* for each word */
@@ -20,6 +22,9 @@ enum {
     MOST_WORDS = 65536,
     RETURN = 0xD65F03C0u
 };
+
+/* Linux's numbers, for C headers that are older: bits of AT_HWCAP2, and the call that sets the streaming VL. */
+enum { HAS_I16I64 = 24, HAS_SME2 = 37, SET_STREAMING_VL = 63 };
 
 static uint64_t state = 0x9E3779B97F4A7C15u;
 
@@ -38,10 +43,16 @@ static uint32_t below(uint32_t n)
 
 static uint32_t words[MOST_WORDS], word_count;
 
+static void add_word(const struct second_fields *f)
+{
+    static const struct second_settings all = {.vl = 128, .features = 31};
+    if (word_count == MOST_WORDS || second_encode(&all, f, &words[word_count++]) != 0)
+        abort();
+}
+
 /* Registers by choice, in one of four ways: apart, or with the destination as the first source, the second, or both. */
 static void add_words(struct second_fields f, uint32_t second_below, uint32_t times)
 {
-    static const struct second_settings all = {.vl = 128, .features = 31};
     for (uint32_t i = 0; i < times; i++) {
         f.destination = below(32);
         f.first = below(32);
@@ -52,8 +63,7 @@ static void add_words(struct second_fields f, uint32_t second_below, uint32_t ti
             f.destination = f.second;
         if (i % 4 == 3)
             f.destination = f.first = f.second;
-        if (word_count == MOST_WORDS || second_encode(&all, &f, &words[word_count++]) != 0)
-            abort();
+        add_word(&f);
     }
 }
 
@@ -75,6 +85,35 @@ static void make_words(uint32_t family, uint32_t times)
                 continue;
             for (f.index = 0; f.index < indexes; f.index++)
                 add_words(f, registers, times);
+        }
+}
+
+/* Sources by choice, in one of four ways: both at random, the two equal, or one or the other at the top of Z. Both are
+ * multiples of the group, so they are equal or share no register. */
+static void add_za_words(struct second_fields f, uint32_t times)
+{
+    uint32_t top = 32 - f.group;
+    for (uint32_t i = 0; i < times; i++) {
+        f.first = i % 4 == 2 ? top : f.group * below(32 / f.group);
+        f.second = i % 4 == 3 ? top : i % 4 == 1 ? f.first : f.group * below(32 / f.group);
+        add_word(&f);
+    }
+}
+
+/* Every lane, group, sign, operation, select register and offset of D or E. */
+static void make_za_words(uint32_t family, uint32_t times)
+{
+    uint32_t unit = family == SECOND_FAMILY_D ? 4 : 2;
+    word_count = 0;
+    for (uint32_t lane = unit == 4 ? 8 : 16; lane <= 16; lane *= 2)
+        for (uint32_t flags = 0; flags < 32; flags++) {
+            struct second_fields f = {.family = family, .lane = lane};
+            f.subtract = flags % 2;
+            f.is_unsigned = flags / 2 % 2;
+            f.group = flags / 4 % 2 == 0 ? 2 : 4;
+            f.select = 8 + flags / 8;
+            for (f.offset = 0; f.offset < 8; f.offset += unit)
+                add_za_words(f, times);
         }
 }
 
@@ -100,12 +139,27 @@ static void fill(uint8_t *z, size_t length, uint32_t kind)
     }
 }
 
+/* Eight bytes at a time, since counting ones is slow in the emulator. */
 static uint32_t ones_between(const uint8_t *a, const uint8_t *b, size_t length)
 {
     uint32_t count = 0;
-    for (size_t i = 0; i < length; i++)
-        count += (uint32_t)__builtin_popcount(a[i] ^ b[i]);
+    for (size_t i = 0; i < length; i += 8) {
+        uint64_t x, y;
+        memcpy(&x, a + i, 8);
+        memcpy(&y, b + i, 8);
+        if (x != y)
+            count += (uint32_t)__builtin_popcountll(x ^ y);
+    }
     return count;
+}
+
+/* W8 to W11, each a small number, any number, or the greatest. */
+static void choose_w(uint32_t *w)
+{
+    for (uint32_t i = 0; i < 4; i++) {
+        uint32_t pick = below(3);
+        w[i] = pick == 0 ? below(64) : pick == 1 ? any() : UINT32_MAX;
+    }
 }
 
 static unsigned long steps, differences, saturated, changed, kept_above, cleared_above;
@@ -123,27 +177,37 @@ static void set_above_aside(uint8_t *z, const uint8_t *before, uint32_t vl, uint
     memcpy(z + at, before + at, above);
 }
 
-static void compare(const struct second_settings *s, uint32_t word, const void *code, uint32_t kind)
+static struct {
+    uint8_t z[MOST_Z], za[MOST_ZA];
+} before, machine, second;
+
+static void compare(struct second_settings *s, uint32_t word, const void *code, uint32_t kind)
 {
-    static uint8_t before[MOST_Z], machine[MOST_Z], second[MOST_Z], za[MOST_ZA];
-    size_t length = second_z_length(s->vl);
+    size_t z_length = second_z_length(s->vl), za_length = second_za_length(s->vl);
     struct second_fields f;
     uint32_t toggled, written;
-    fill(before, length, kind);
-    memcpy(machine, before, length);
-    memcpy(second, before, length);
-    step(machine, code);
-    int refusal = second_execute(s, word, second, length, za, second_za_length(s->vl), &toggled, &written);
     second_decode(s, word, &f);
+    fill(before.z, z_length, kind);
+    if (f.family >= SECOND_FAMILY_D) {
+        fill(before.za, za_length, below(CONTENTS));
+        choose_w(s->w);
+    }
+    machine = second = before;
+    if (f.family >= SECOND_FAMILY_D)
+        step_za(machine.z, code, machine.za, s->w);
+    else
+        step(machine.z, code);
+    int refusal = second_execute(s, word, second.z, z_length, second.za, za_length, &toggled, &written);
     if (f.family <= SECOND_FAMILY_B)
-        set_above_aside(machine, before, s->vl, f.destination);
+        set_above_aside(machine.z, before.z, s->vl, f.destination);
     steps++;
     changed += toggled != 0;
-    if (refusal != 0 || memcmp(machine, second, length) != 0 || toggled != ones_between(before, machine, length)) {
+    uint32_t ones = ones_between(before.z, machine.z, z_length) + ones_between(before.za, machine.za, za_length);
+    if (refusal != 0 || memcmp(&machine, &second, sizeof machine) != 0 || toggled != ones) {
         if (differences++ < 10)
             printf("differs: VL %u word %08X contents %u\n", (unsigned)s->vl, (unsigned)word, (unsigned)kind);
     }
-    const uint8_t *d = second + f.destination * (s->vl / 8);
+    const uint8_t *d = second.z + f.destination * (s->vl / 8);
     for (uint32_t i = 0, wide = f.lane / 4; f.family == SECOND_FAMILY_C && i < s->vl / 8; i += wide) {
         int top = 1, bottom = 1;
         for (uint32_t j = 0; j < wide; j++) {
@@ -157,9 +221,13 @@ static void compare(const struct second_settings *s, uint32_t word, const void *
 /* All words are put in memory first: to write between steps would make the emulator translate anew each time. */
 static void run_family(uint32_t vl, uint32_t family, uint32_t times, uint32_t *code)
 {
-    struct second_settings s = {.vl = vl, .features = 3};
+    int za = family >= SECOND_FAMILY_D;
+    struct second_settings s = {.vl = vl, .features = za ? 31 : 3, .modes = za ? SECOND_SM | SECOND_ZA : 0};
     unsigned long steps_before = steps, changed_before = changed, saturated_before = saturated;
-    make_words(family, times);
+    if (za)
+        make_za_words(family, times);
+    else
+        make_words(family, times);
     for (uint32_t i = 0; i < word_count; i++) {
         code[2 * i] = words[i];
         code[2 * i + 1] = RETURN;
@@ -168,7 +236,7 @@ static void run_family(uint32_t vl, uint32_t family, uint32_t times, uint32_t *c
     for (uint32_t i = 0; i < word_count; i++)
         for (uint32_t kind = 0; kind < CONTENTS; kind++)
             compare(&s, words[i], code + 2 * i, kind);
-    printf("VL %u family %c: %u words, %lu steps, %lu changed a register", (unsigned)vl,
+    printf("VL %u family %c: %u words, %lu steps, %lu changed Z or ZA", (unsigned)vl,
            (char)('A' + family - SECOND_FAMILY_A), (unsigned)word_count, steps - steps_before,
            changed - changed_before);
     if (family == SECOND_FAMILY_C)
@@ -176,22 +244,36 @@ static void run_family(uint32_t vl, uint32_t family, uint32_t times, uint32_t *c
     printf("\n");
 }
 
+static void set_vl(int call, uint32_t vl)
+{
+    if ((prctl(call, vl / 8) & PR_SVE_VL_LEN_MASK) != (int)(vl / 8)) {
+        printf("the machine has no%s VL of %u\n", call == SET_STREAMING_VL ? " streaming" : "", (unsigned)vl);
+        exit(2);
+    }
+}
+
 int main(int argc, char **argv)
 {
     uint32_t times = argc > 1 ? (uint32_t)atoi(argv[1]) : 64;
     uint32_t *code = mmap(NULL, MOST_WORDS * 8, PROT_READ | PROT_WRITE | PROT_EXEC, MAP_PRIVATE | MAP_ANONYMOUS, -1, 0);
+    unsigned long has = getauxval(AT_HWCAP2);
+    int sme2 = (has >> HAS_SME2 & 1) != 0 && (has >> HAS_I16I64 & 1) != 0;
     if (code == MAP_FAILED)
         return 2;
     for (uint32_t vl = 128; vl <= 512; vl *= 2) {
-        if ((prctl(PR_SVE_SET_VL, vl / 8) & PR_SVE_VL_LEN_MASK) != (int)(vl / 8)) {
-            printf("the machine has no VL of %u\n", (unsigned)vl);
-            return 2;
-        }
+        set_vl(PR_SVE_SET_VL, vl);
         run_family(vl, SECOND_FAMILY_A, times, code);
         run_family(vl, SECOND_FAMILY_B, 4 * times, code);
         run_family(vl, SECOND_FAMILY_C, times, code);
     }
     printf("above a V register: kept %lu times, cleared %lu times\n", kept_above, cleared_above);
-    printf("%lu steps, %lu differences\n", steps, differences);
+    for (uint32_t vl = 128; sme2 && vl <= 512; vl *= 2) {
+        set_vl(SET_STREAMING_VL, vl);
+        run_family(vl, SECOND_FAMILY_D, times, code);
+        run_family(vl, SECOND_FAMILY_E, times, code);
+    }
+    if (!sme2)
+        printf("D and E SKIPPED: this emulator lacks SME2 or its 16-bit lanes (I16I64)\n");
+    printf("%lu steps, %lu differences%s\n", steps, differences, sme2 ? "" : ", D and E skipped");
     return differences == 0 ? 0 : 1;
 }

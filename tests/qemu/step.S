@@ -1,86 +1,73 @@
 // void step(uint8_t *z, const void *code): Z0 to Z31 from z, then the code, then Z0 to Z31 back to z.
 //
-// The code is one word and a return. A word of A, B or C changes vector registers only, so x0 is still z after it.
-    .arch armv8.5-a+sve2
+// void step_za(uint8_t *z, const void *code, uint8_t *za, const uint32_t *w): the same in streaming mode, with ZA from
+// za and back, and with W8 to W11 from w.
+//
+// The code is one word and a return. A word of A, B or C changes vector registers only, and one of D or E changes ZA
+// only, so the arguments are still in their registers after it.
+    .arch armv8.5-a+sve2+sme
     .text
-    .global step
-    .type step, %function
-step:
+
+    .macro each_z operation
+    .irp r, 0,1,2,3,4,5,6,7,8,9,10,11,12,13,14,15,16,17,18,19,20,21,22,23,24,25,26,27,28,29,30,31
+    \operation z\r, [x0, #\r, mul vl]
+    .endr
+    .endm
+
+    // ZA has as many vectors as a vector has bytes.
+    .macro each_za operation
+    rdsvl x4, #1
+    mov x5, x2
+    mov w12, #0
+1:  \operation za[w12, 0], [x5]
+    add x5, x5, x4
+    add w12, w12, #1
+    cmp w12, w4
+    b.lo 1b
+    .endm
+
+    .macro enter
     stp x29, x30, [sp, #-80]!
     stp d8, d9, [sp, #16]      // the callee keeps the low halves of these eight
     stp d10, d11, [sp, #32]
     stp d12, d13, [sp, #48]
     stp d14, d15, [sp, #64]
-    ldr z0, [x0, #0, mul vl]
-    ldr z1, [x0, #1, mul vl]
-    ldr z2, [x0, #2, mul vl]
-    ldr z3, [x0, #3, mul vl]
-    ldr z4, [x0, #4, mul vl]
-    ldr z5, [x0, #5, mul vl]
-    ldr z6, [x0, #6, mul vl]
-    ldr z7, [x0, #7, mul vl]
-    ldr z8, [x0, #8, mul vl]
-    ldr z9, [x0, #9, mul vl]
-    ldr z10, [x0, #10, mul vl]
-    ldr z11, [x0, #11, mul vl]
-    ldr z12, [x0, #12, mul vl]
-    ldr z13, [x0, #13, mul vl]
-    ldr z14, [x0, #14, mul vl]
-    ldr z15, [x0, #15, mul vl]
-    ldr z16, [x0, #16, mul vl]
-    ldr z17, [x0, #17, mul vl]
-    ldr z18, [x0, #18, mul vl]
-    ldr z19, [x0, #19, mul vl]
-    ldr z20, [x0, #20, mul vl]
-    ldr z21, [x0, #21, mul vl]
-    ldr z22, [x0, #22, mul vl]
-    ldr z23, [x0, #23, mul vl]
-    ldr z24, [x0, #24, mul vl]
-    ldr z25, [x0, #25, mul vl]
-    ldr z26, [x0, #26, mul vl]
-    ldr z27, [x0, #27, mul vl]
-    ldr z28, [x0, #28, mul vl]
-    ldr z29, [x0, #29, mul vl]
-    ldr z30, [x0, #30, mul vl]
-    ldr z31, [x0, #31, mul vl]
-    blr x1
-    str z0, [x0, #0, mul vl]
-    str z1, [x0, #1, mul vl]
-    str z2, [x0, #2, mul vl]
-    str z3, [x0, #3, mul vl]
-    str z4, [x0, #4, mul vl]
-    str z5, [x0, #5, mul vl]
-    str z6, [x0, #6, mul vl]
-    str z7, [x0, #7, mul vl]
-    str z8, [x0, #8, mul vl]
-    str z9, [x0, #9, mul vl]
-    str z10, [x0, #10, mul vl]
-    str z11, [x0, #11, mul vl]
-    str z12, [x0, #12, mul vl]
-    str z13, [x0, #13, mul vl]
-    str z14, [x0, #14, mul vl]
-    str z15, [x0, #15, mul vl]
-    str z16, [x0, #16, mul vl]
-    str z17, [x0, #17, mul vl]
-    str z18, [x0, #18, mul vl]
-    str z19, [x0, #19, mul vl]
-    str z20, [x0, #20, mul vl]
-    str z21, [x0, #21, mul vl]
-    str z22, [x0, #22, mul vl]
-    str z23, [x0, #23, mul vl]
-    str z24, [x0, #24, mul vl]
-    str z25, [x0, #25, mul vl]
-    str z26, [x0, #26, mul vl]
-    str z27, [x0, #27, mul vl]
-    str z28, [x0, #28, mul vl]
-    str z29, [x0, #29, mul vl]
-    str z30, [x0, #30, mul vl]
-    str z31, [x0, #31, mul vl]
+    .endm
+
+    .macro leave
     ldp d8, d9, [sp, #16]
     ldp d10, d11, [sp, #32]
     ldp d12, d13, [sp, #48]
     ldp d14, d15, [sp, #64]
     ldp x29, x30, [sp], #80
     ret
+    .endm
+
+    .global step
+    .type step, %function
+step:
+    enter
+    each_z ldr
+    blr x1
+    each_z str
+    leave
     .size step, . - step
+
+    // Entering and leaving streaming mode clears Z, and a system call would leave it: all is between the two.
+    .global step_za
+    .type step_za, %function
+step_za:
+    enter
+    smstart
+    each_za ldr
+    each_z ldr
+    ldp w8, w9, [x3]
+    ldp w10, w11, [x3, #8]
+    blr x1
+    each_z str
+    each_za str
+    smstop
+    leave
+    .size step_za, . - step_za
+
     .section .note.GNU-stack, "", %progbits

@@ -1,5 +1,9 @@
 -- `elements::put4` meets its contract. Assumes nothing.
+use Prim.Native.Nat.{ℕ, _+_, _/_}
+use mathlib.Core.Path.{sym, ap, _∙_}
+use mathlib.Core.List.{List}
 use borrow.Author.Needs.{needs}
+use Rattle.elements.specs.Elements.{putAt}
 use Rattle.elements.proofs.Elements.{put-add}
 use Rattle.elements.proofs.put4.Statement.{statement}
 use Rattle.elements.proofs.put4.Tie as tie
@@ -17,7 +21,13 @@ same-length : tie.Need-same-length
 same-length c = search needs
 
 returns : tie.Need-returns
-returns c = rw (put-add 2 2) (cc)
+returns c =
+    let q = c .before .before in
+    let p = q .before .before .before .before in
+    let a = p .before .before .before .args in
+    q .put22 .ensures
+    ∙ ap (λ (l : List ℕ). putAt 2 (a .at + 2) (a .v / 65536) l) (p .put2 .ensures)
+    ∙ sym (put-add 2 2 (a .at) (a .v) (a .s .now))
 
 pub put4-spec : {M : Type 1} → statement M
 put4-spec = tie.close (tie.spec put2-requires add-put2 put2-requires-2 same-length returns)

@@ -1,5 +1,9 @@
 -- `elements::put8` meets its contract. Assumes nothing.
+use Prim.Native.Nat.{ℕ, _+_, _/_}
+use mathlib.Core.Path.{sym, ap, _∙_}
+use mathlib.Core.List.{List}
 use borrow.Author.Needs.{needs}
+use Rattle.elements.specs.Elements.{putAt}
 use Rattle.elements.proofs.Elements.{put-add}
 use Rattle.elements.proofs.put8.Statement.{statement}
 use Rattle.elements.proofs.put8.Tie as tie
@@ -17,7 +21,13 @@ same-length : tie.Need-same-length
 same-length c = search needs
 
 returns : tie.Need-returns
-returns c = rw (put-add 4 4) (cc)
+returns c =
+    let q = c .before .before in
+    let p = q .before .before .before .before in
+    let a = p .before .before .before .args in
+    q .put42 .ensures
+    ∙ ap (λ (l : List ℕ). putAt 4 (a .at + 4) (a .v / 4294967296) l) (p .put4 .ensures)
+    ∙ sym (put-add 4 4 (a .at) (a .v) (a .s .now))
 
 pub put8-spec : {M : Type 1} → statement M
 put8-spec = tie.close (tie.spec put4-requires add-put4 put4-requires-2 same-length returns)
