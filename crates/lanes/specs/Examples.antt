@@ -1,34 +1,10 @@
--- Document 01's rows of one lane, and vectors from a model in Python that shares nothing with this code, all computed.
+-- Vectors of one lane, computed: document 01's numbers of P3, P4, P9 and P10, −2^31 squared and doubled, and vectors from a model in Python
+-- that shares nothing with this code.
 use Prim.Native.Nat.{ℕ}
 use mathlib.Core.Path.{_≡_, refl}
 use mathlib.Core.Bool.{Bool, true, false}
 use mathlib.Core.List.{List, [], _∷_, map}
-use lib.IntN.{pos, negℤ}
 use Rattle.lanes.specs.Lane.{SInt, Int, low, product, accumulate, laneStep, clamp, SignedSat, satStep, step}
-
--- P3, P4: FF, FF onto 0, signed and unsigned
-pub p3 : step false 8 16 false false 0 0xFF 0xFF ≡ 0x0001
-unfolding SInt Int low product accumulate laneStep step
-p3 = refl
-
-pub p4 : step false 8 16 true false 0 0xFF 0xFF ≡ 0xFE01
-unfolding SInt Int low product accumulate laneStep step
-p4 = refl
-
--- P9: C, lane 16, subtract, -32768 and -32768 from 0
-pub p9 : SInt 32 (step true 16 32 false true 0 0x8000 0x8000) ≡ negℤ (pos 2147483647)
-unfolding SInt low clamp SignedSat satStep step
-p9 = refl
-
--- P10: the add form, the same factors, onto -1
-pub p10 : SInt 32 (step true 16 32 false false 0xFFFFFFFF 0x8000 0x8000) ≡ pos 2147483646
-unfolding SInt low clamp SignedSat satStep step
-p10 = refl
-
--- -2^31 squared and doubled is 2^63, and is clamped to 2^63 - 1
-pub squared-64 : step true 32 64 false false 0 0x80000000 0x80000000 ≡ 0x7FFFFFFFFFFFFFFF
-unfolding SInt low clamp SignedSat satStep step
-squared-64 = refl
 
 -- saturating, lane, wide, unsigned, subtract, the accumulator, the factors, the answer
 pub data Vector : Type 0 where
@@ -42,7 +18,12 @@ answerOf (vector saturating lane wide unsigned subtract a x y answer) = answer
 
 abbrev pub vectors : List Vector
 vectors =
-    vector false 8 16 true true 0x7FFF 0x0F 0x01 0x7FF0
+    vector false 8 16 false false 0 0xFF 0xFF 0x0001
+    ∷ vector false 8 16 true false 0 0xFF 0xFF 0xFE01
+    ∷ vector true 16 32 false true 0 0x8000 0x8000 0x80000001
+    ∷ vector true 16 32 false false 0xFFFFFFFF 0x8000 0x8000 0x7FFFFFFE
+    ∷ vector true 32 64 false false 0 0x80000000 0x80000000 0x7FFFFFFFFFFFFFFF
+    ∷ vector false 8 16 true true 0x7FFF 0x0F 0x01 0x7FF0
     ∷ vector false 8 16 true false 0x0A09 0x7F 0xCA 0x6E3F
     ∷ vector false 8 16 false false 0x0005 0x80 0x7F 0xC085
     ∷ vector false 8 16 false true 0x0000 0x80 0x80 0xC000

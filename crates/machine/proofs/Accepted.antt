@@ -15,12 +15,14 @@ use Rattle.words.specs.declared.Family.{Family}
 use Rattle.words.specs.declared.Family.the-variants.{ByElement, Vector, Saturating, LongLong, Long}
 use Rattle.words.specs.declared.Fields.{Fields}
 use Rattle.elements.specs.Size.{perHalf}
+use Rattle.elements.specs.Elements.{elementOf}
 use Rattle.lanes.specs.Lane.{step}
 use Rattle.bits.proofs.Bits.{toggled-same}
 use Rattle.recipes.specs.Recipe.{sizeOf, doubled, eachSegment, halfOf, recipeOf, newLength, perSource}
 use Rattle.recipes.specs.Element.{chosen}
 use Rattle.recipes.specs.declared.Recipe.{Recipe}
 use Rattle.recipes.proofs.Inside.{bits-of-lane}
+use Rattle.recipes.proofs.Sizes.{half-in-bits, bits-of-doubled, bits-of-quadrupled, in-half, Lane, InBits, newOf}
 use Rattle.machine.specs.Step.{register, zAfter, stride, selected, firstVector, zaAfter}
 use Rattle.machine.specs.Execute.{steppedBy, stepped}
 use Rattle.machine.specs.Theorems.{VL, Accepted, KeepsIfRefused, SameLengths, StillBytes, CountsToggled, AtMostWritten}
@@ -28,8 +30,6 @@ use Rattle.machine.specs.Theorems.{ElementsA, ElementsB, ElementsC, Elem
 use Rattle.machine.specs.Theorems.{zaVector, Among, wanted, First, Distinct, Exact}
 use Rattle.machine.proofs.Grid.{rows-distinct, row-lt}
 use Rattle.machine.proofs.Array.{IntoZa, grid, first-multiple}
-use Rattle.elements.specs.Elements.{elementOf}
-use Rattle.recipes.proofs.Sizes.{half-in-bits, bits-of-doubled, bits-of-quadrupled, in-half, Lane, InBits, newOf}
 use Rattle.machine.proofs.Effects.{z-length, z-bytes, z-few, z-elsewhere, z-element, za-length, za-bytes, za-few, among, named, za-elsewhere, za-element}
 use Rattle.machine.proofs.Outcomes.{accepted-ranges, by-step, stepped-number}
 
