@@ -1,4 +1,4 @@
--- What the code asks of its places: that the bytes it reads are there. Only contracts use this.
+-- What the code asks of its places: that the bytes it reads are there. Only contracts and proofs use this.
 use Prim.Native.Nat.{ℕ, _+_, _*_, _/_, _%_, _≤_, _<_}
 use mathlib.Core.Path.{_≡_}
 use mathlib.Core.List.{List}
