@@ -1,4 +1,4 @@
--- The vectors of ZA that a word writes, one after the other, as the code goes, and what the code asks of its places. Only contracts use this.
+-- The vectors of ZA that a word writes, one after the other, as the code goes, and what the code asks of its places. Only contracts and proofs use this.
 use Prim.Native.Nat.{ℕ, _+_, _*_, _/_, _%_, _≤_, _<_}
 use mathlib.Core.Path.{_≡_}
 use mathlib.Core.Logic.{_⊎_}

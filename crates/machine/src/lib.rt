@@ -28,6 +28,7 @@ pub struct Counts {
     pub written: u32,
 }
 
+// A step that was done, or why none was.
 pub enum Executed {
     Done(Counts),
     Refused(Refusal),
