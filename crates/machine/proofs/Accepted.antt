@@ -27,7 +27,7 @@ use Rattle.machine.specs.Step.{register, zAfter, stride, selected, first
 use Rattle.machine.specs.Execute.{steppedBy, stepped}
 use Rattle.machine.specs.Theorems.{VL, Accepted, KeepsIfRefused, SameLengths, StillBytes, CountsToggled, AtMostWritten}
 use Rattle.machine.specs.Theorems.{ElementsA, ElementsB, ElementsC, ElementsZa}
-use Rattle.machine.specs.Theorems.{zaVector, Among, wanted, First, Distinct, Exact}
+use Rattle.machine.specs.Theorems.{zaVector, Among, First, Distinct, Exact}
 use Rattle.machine.proofs.Grid.{rows-distinct, row-lt}
 use Rattle.machine.proofs.Array.{IntoZa, grid, first-multiple}
 use Rattle.machine.proofs.Effects.{z-length, z-bytes, z-few, z-elsewhere, z-element, za-length, za-bytes, za-few, among, named, za-elsewhere, za-element}
@@ -152,7 +152,7 @@ module _ (s : Settings) (w : ℕ) (f : Fields) (z za : List ℕ) (a : Accepted s
   pub first : IntoZa f → First (perSource (f .family)) s f
   unfolding firstVector selected
   first into =
-      let x : ℕ = wanted s f in
+      let x : ℕ = selected s f in
       let rows = grid s v-za f g into in
       let l : x % perSource (f .family) < perSource (f .family) = mod-lt x (rows .some) in
       record {

@@ -31,12 +31,12 @@ use Rattle.machine.specs.Loop.{place, fresh}
 use Rattle.machine.specs.Theorems.{zaVector, Among}
 use Rattle.machine.proofs.Grid.{row-of, within-row, row-lt, Written, by-row, place-distinct}
 use Rattle.machine.proofs.Array.{IntoZa, grid, tested, passes, placed, array-is}
-use Rattle.machine.proofs.Registers.{new-length, register-is}
+use Rattle.machine.proofs.Registers.{new-length, long-x, register-is}
 use Rattle.recipes.proofs.Sizes.{InBits, newOf, bytes-of-wide, counted-in-bits, element-in-bits}
 
 -- ---- Z
 
-module _ (s : Settings) (v : VectorLength (vectorBytes s)) (f : Fields) (g : Ranges f) (z : List ℕ) (long : length z ≡ 32 * vectorBytes s) where
+module _ (s : Settings) (v : VectorLength (vectorBytes s)) (f : Fields) (g : Ranges f) (z : List ℕ) (z-long : length z ≡ 32 * vectorBytes s) where
   abbrev w : ℕ
   w = vectorBytes s
 
@@ -49,34 +49,34 @@ module _ (s : Settings) (v : VectorLength (vectorBytes s)) (f : Fields) (g : Ran
   abbrev at : ℕ
   at = f .destination * w
 
-  long-x : length x ≡ n
-  long-x = length-newBytes (recipeOf (f .family) f 0) n _ _ _ (new-length (f .family) w v .0)
+  long : length x ≡ n
+  long = long-x s v f g z z-long
 
   fit : at + length x ≤ length z
-  fit = omega (arith, long-x, new-length (f .family) w v .1, next (f .destination) w, room (f .destination) 32 w z long (g .destination))
+  fit = omega (arith, long, new-length (f .family) w v .1, next (f .destination) w, room (f .destination) 32 w z z-long (g .destination))
 
   pub z-length : length (zAfter s f z) ≡ length z
-  z-length = rw (← register-is s v f g z long) (length-splice at x z fit)
+  z-length = rw (← register-is s v f g z z-long) (length-splice at x z fit)
 
   pub z-bytes : Bytes z → Bytes (zAfter s f z)
-  z-bytes b = rw (← register-is s v f g z long) (Bytes-splice at x z (Bytes-newBytes (recipeOf (f .family) f 0) n _ _ _) b)
+  z-bytes b = rw (← register-is s v f g z z-long) (Bytes-splice at x z (Bytes-newBytes (recipeOf (f .family) f 0) n _ _ _) b)
 
   pub z-few : toggled z (zAfter s f z) ≤ 8 * newLength (f .family) (vectorBytes s)
-  z-few = rw (← register-is s v f g z long) (omega (arith, long-x, bytes-splice-le differ differ-once differ-unmoved at x z fit))
+  z-few = rw (← register-is s v f g z z-long) (omega (arith, long, bytes-splice-le differ differ-once differ-unmoved at x z fit))
 
   -- the bytes outside the new ones
   pub z-elsewhere : (i : ℕ) → (i < f .destination * vectorBytes s) ⊎ (f .destination * vectorBytes s + newLength (f .family) (vectorBytes s) ≤ i)
       → getD (zAfter s f z) i 0 ≡ getD z i 0
-  z-elsewhere i (inl h) = rw (← register-is s v f g z long) (splice-before at x z fit i h)
-  z-elsewhere i (inr h) = rw (← register-is s v f g z long) (splice-after at x z fit i (omega (arith, long-x)))
+  z-elsewhere i (inl h) = rw (← register-is s v f g z z-long) (splice-before at x z fit i h)
+  z-elsewhere i (inr h) = rw (← register-is s v f g z z-long) (splice-after at x z fit i (omega (arith, long)))
 
   -- an element of the destination
   whole-element : (k e : ℕ) → e * k + k ≤ n → element k (register s (zAfter s f z) (f .destination)) e ≡ element k x e
   whole-element k e h =
       elementAt-vectorAt k (e * k) w (f .destination) (zAfter s f z) (omega (arith, new-length (f .family) w v .1))
-      ∙ rw (← register-is s v f g z long)
+      ∙ rw (← register-is s v f g z z-long)
       (elementAt-same k (at + e * k) (e * k) (splice at x z) x
-      (λ i q. ap (λ (j : ℕ). getD (splice at x z) j 0) (omega arith) ∙ splice-in at x z fit (e * k + i) (omega (arith, long-x))))
+      (λ i q. ap (λ (j : ℕ). getD (splice at x z) j 0) (omega arith) ∙ splice-in at x z fit (e * k + i) (omega (arith, long))))
 
   pub z-element : (lane wide : ℕ) → InBits (recipeOf (f .family) f 0) lane wide → (e : ℕ) → e < 8 * newLength (f .family) (vectorBytes s) / wide
       → elementOf wide (register s (zAfter s f z) (f .destination)) e

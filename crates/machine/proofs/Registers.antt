@@ -39,7 +39,8 @@ module _ (s : Settings) (v : VectorLength (vectorBytes s)) (f : Fields) (g : Ran
   abbrev x : List ℕ
   x = newBytes (recipeOf (f .family) f 0) n (register s z (f .destination)) (register s z (f .first)) (register s z (f .second))
 
-  long-x : length x ≡ n
+  -- the new bytes are as many as are due
+  pub long-x : length x ≡ n
   long-x = length-newBytes (recipeOf (f .family) f 0) n _ _ _ (new-length (f .family) w v .0)
 
   fit : (f .destination + 1) * w ≤ length z

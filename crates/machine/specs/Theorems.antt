@@ -16,7 +16,7 @@ use Rattle.elements.specs.Files.{vectorAt}
 use Rattle.lanes.specs.Lane.{laneStep, satStep}
 use Rattle.bits.specs.Bits.{toggled}
 use Rattle.machine.specs.Modes.{permits}
-use Rattle.machine.specs.Step.{register, stride, firstVector, writesVector}
+use Rattle.machine.specs.Step.{register, stride, selected, firstVector, writesVector}
 use Rattle.machine.specs.Execute.{Outcome, refusedWith, stepped, executePaper}
 
 -- VL
@@ -177,16 +177,13 @@ ElsewhereZa k s f z za o =
 abbrev pub WheneverZa : (ℕ → Settings → Fields → List ℕ → List ℕ → Outcome → Type 0) → Type 0
 WheneverZa P = Whenever LongLong (P 4) × Whenever Long (P 2)
 
--- (W+offset) mod stride, where W is the select register W(8+vv)
-abbrev pub wanted : Settings → Fields → ℕ
-wanted s f = (getD (s .select) (f .select - 8) 0 + f .offset) % stride s f
-
--- "Stride is (VL/8)/group. The first vector is (W+offset) mod stride, rounded down to a multiple of k"; the k vectors from it on are below stride
+-- "Stride is (VL/8)/group. The first vector is (W+offset) mod stride, rounded down to a multiple of k" (`selected` is that before it
+-- is rounded); the k vectors from it on are below stride
 pub record First (k : ℕ) (s : Settings) (f : Fields) : Type 0 where
   pub stride-is : stride s f ≡ VL s / 8 / f .group
   pub multiple : firstVector s f % k ≡ 0
-  pub rounded-down : firstVector s f ≤ wanted s f
-  pub by-less : wanted s f < firstVector s f + k
+  pub rounded-down : firstVector s f ≤ selected s f
+  pub by-less : selected s f < firstVector s f + k
   pub fits : firstVector s f + k ≤ stride s f
 
 -- no two of the vectors are one
