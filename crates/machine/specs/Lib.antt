@@ -2,4 +2,5 @@ pub mod Modes
 pub mod Step
 pub mod Execute
 pub mod Theorems
+pub mod Sweep
 pub mod Loop

@@ -1,0 +1,105 @@
+-- Demand 3: from where a run of words ends, their partners in reverse order lead back to its start. Statements only: proofs/Sweep.antt proves
+-- each.
+use Prim.Native.Nat.{ℕ, _<_}
+use mathlib.Core.Path.{_≡_}
+use mathlib.Core.Logic.{_≢_}
+use mathlib.Core.Bool.{cond}
+use mathlib.Core.List.{List, [], _∷_, map, reverse}
+use lib.Dec.{eqb}
+use lib.ListN.{getD}
+use Rattle.settings.specs.declared.Settings.{Settings}
+use Rattle.words.specs.Decode.{decodePaper}
+use Rattle.words.specs.Partner.{partnerPaper}
+use Rattle.words.specs.declared.Family.{Family}
+use Rattle.words.specs.declared.Family.the-variants.{ByElement, Vector, Saturating, LongLong, Long}
+use Rattle.words.specs.declared.Fields.{Fields}
+use Rattle.machine.specs.Execute.{Outcome, refusedWith, executePaper}
+
+-- ---- a run of words
+
+-- three numbers for each word: refusal or 0, toggled, written
+abbrev pub Report : Type 0
+Report = ℕ × ℕ × ℕ
+
+abbrev pub reportOf : Outcome → Report
+reportOf o = (o .number, o .toggled, o .written)
+
+-- what a run leaves: Z, ZA, and a report for each word
+pub record Run : Type 0 where
+  pub z : List ℕ
+  pub za : List ℕ
+  pub reports : List Report
+
+-- what is done with a word, given Z and ZA
+abbrev pub Call : Type 0
+Call = ℕ → List ℕ → List ℕ → Outcome
+
+abbrev pub reportFirst : Outcome → Run → Run
+reportFirst o r = record { z = r .z; za = r .za; reports = reportOf o ∷ r .reports }
+
+-- the words in their order: each finds Z and ZA as the one before left them
+unfoldable pub runOf : Call → List ℕ → List ℕ → List ℕ → Run
+runOf call [] z za = record { z = z; za = za; reports = [] }
+runOf call (w ∷ ws) z za = reportFirst (call w z za) (runOf call ws (call w z za .z) (call w z za .za))
+
+-- the run itself, and what it leaves
+abbrev pub there : Settings → List ℕ → List ℕ → List ℕ → Run
+there s ws z za = runOf (executePaper s) ws z za
+
+-- one word of the way back: `partner` is asked for the word's partner, and `execute` is given it. The number is 0 only where both accept
+unfoldable pub undoPaper : Settings → Call
+undoPaper s w z za = cond (eqb (partnerPaper s w .0) 0) (executePaper s (partnerPaper s w .1) z za) (refusedWith (partnerPaper s w .0) z za)
+
+-- the way back, from where the words led: "each word's partner in reverse order"
+abbrev pub back : Settings → List ℕ → List ℕ → List ℕ → Run
+back s ws z za = runOf (undoPaper s) (reverse ws) (there s ws z za .z) (there s ws z za .za)
+
+-- ---- what is asked of the words
+
+-- Z and ZA hold bytes
+abbrev pub Bytes : List ℕ → Type 0
+Bytes l = (i : ℕ) → getD l i 0 < 256
+
+-- "each accepted for execution in its turn". So the settings are valid and Z and ZA have the right lengths, unless there is no word at all
+abbrev pub AcceptedInTurn : Call → List ℕ → List ℕ → List ℕ → Type 0
+AcceptedInTurn call [] z za = Unit {0}
+AcceptedInTurn call (w ∷ ws) z za = (call w z za .number ≡ 0) × AcceptedInTurn call ws (call w z za .z) (call w z za .za)
+
+abbrev pub EveryWord : (ℕ → Type 0) → List ℕ → Type 0
+EveryWord P [] = Unit {0}
+EveryWord P (w ∷ ws) = P w × EveryWord P ws
+
+abbrev pub fieldsOf : Settings → ℕ → Fields
+fieldsOf s w = decodePaper s w .1
+
+-- "none saturating": not of family C
+abbrev pub NotSaturating : Settings → ℕ → Type 0
+NotSaturating s w = fieldsOf s w .family ≢ Saturating
+
+-- A and B write a V register, and it is neither source
+abbrev pub SourcesApart : Family → Fields → Type 0
+SourcesApart ByElement f = (f .destination ≢ f .first) × (f .destination ≢ f .second)
+SourcesApart Vector f = (f .destination ≢ f .first) × (f .destination ≢ f .second)
+SourcesApart Saturating f = Unit {0}
+SourcesApart LongLong f = Unit {0}
+SourcesApart Long f = Unit {0}
+
+-- "no word that writes a V register naming its destination as a source"
+abbrev pub NotItsOwnSource : Settings → ℕ → Type 0
+NotItsOwnSource s w = SourcesApart (fieldsOf s w .family) (fieldsOf s w)
+
+-- ---- the theorem
+
+-- accepted, with the counts of a report
+abbrev pub acceptedWith : Report → Report
+acceptedWith r = (0, r .1, r .2)
+
+-- Z and ZA are what they were at the start, and the partners are accepted and report what their words reported
+abbrev pub Closes : Settings → List ℕ → List ℕ → List ℕ → Type 0
+Closes s ws z za = back s ws z za ≡ record { z = z; za = za; reports = reverse (map acceptedWith (there s ws z za .reports)) }
+
+abbrev pub SweepCloses : Type 0
+SweepCloses =
+    (s : Settings) (ws z za : List ℕ) → Bytes z → Bytes za
+    → AcceptedInTurn (executePaper s) ws z za → EveryWord (NotSaturating s) ws → EveryWord (NotItsOwnSource s) ws
+    → Closes s ws z za
