@@ -10,11 +10,8 @@ use lib.Seq.{getD-set-same, getD-set-other, getD-take, getD-drop}
 use lib.Pow.{pow-add}
 use lib.Arith.{mod-mul}
 use lib.Dec.{lit<}
+pub use Rattle.elements.specs.Elements.{Bytes}
 use Rattle.elements.specs.Elements.{elementAt, putAt, lowBytes, splice}
-
--- every element of s is a byte
-abbrev pub Bytes : List ℕ → Type 0
-Bytes s = (i : ℕ) → getD s i 0 < 256
 
 -- ---- numbers of k bytes
 

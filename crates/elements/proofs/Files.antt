@@ -201,6 +201,20 @@ renewed-cong writes new new′ w n s h =
     by true t e = e refl
     by false t e = refl
 
+-- what was written is undone by writing what was there
+pub renewed-undone : (writes : ℕ → Bool) (new again : ℕ → List ℕ) (w n : ℕ) (s : List ℕ) → length s ≡ n * w
+    → ((v : ℕ) → v < n → writes v ≡ true → length (new v) ≡ w) → ((v : ℕ) → v < n → writes v ≡ true → again v ≡ vectorAt w v s)
+    → renewed writes again w n (renewed writes new w n s) ≡ s
+unfolding renewed
+renewed-undone writes new again w n s long wide h =
+    laid-cong (λ v. cond (writes v) (again v) (vectorAt w v (renewed writes new w n s))) (λ v. vectorAt w v s) n
+    (λ v l. by (writes v) (new v) (vectorAt w v s) (h v l) (vectorAt-renewed writes new w n s long wide v l))
+    ∙ laid-vectorAt w n s long
+  where
+    by : {x y : List ℕ} (b : Bool) (z t : List ℕ) → (b ≡ true → x ≡ t) → y ≡ cond b z t → cond b x y ≡ t
+    by true z t e f = e refl
+    by false z t e f = f
+
 -- ---- one vector after the other
 
 -- what is asked of the vectors that are replaced: they are in the file and of its width

@@ -11,3 +11,7 @@ pub mod Outcomes
 pub mod Accepted
 pub mod Theorems
 pub mod Answers
+pub mod Undoing
+pub mod Sweep
+pub mod Needed
+pub mod Calls

@@ -46,7 +46,7 @@ module _ (s : Settings) (v : VectorLength (vectorBytes s)) (f : Fields) (g : Ran
   fit : (f .destination + 1) * w ≤ length z
   fit = room (f .destination) 32 w z long (g .destination)
 
-  long-register : length (newRegister s f z) ≡ w
+  pub long-register : length (newRegister s f z) ≡ w
   unfolding newRegister
   long-register =
       rw (length-append, long-x, length-drop, length-vectorAt w (f .destination) z fit) (omega (arith, new-length (f .family) w v .1))

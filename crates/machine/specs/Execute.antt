@@ -78,6 +78,10 @@ executePaper s w z za =
     (cond (rightLengths s (length z) (length za)) (executeDecoded s (decodeEnabled (s .features .0) w) z za) (refusedWith 2 z za))
     (refusedWith 1 z za)
 
+-- what `execute` promises of its answer, and of Z and ZA at the call's end
+abbrev pub ExecutePromise : Settings → ℕ → List ℕ → List ℕ → Executed → List ℕ → List ℕ → Type 0
+ExecutePromise s w z za r z′ za′ = executedSays r z′ za′ ≡ executePaper s w z za
+
 -- ---- only contracts use this
 
 -- what the step has done to the files, and the bits that differ

@@ -3,4 +3,6 @@ pub mod Step
 pub mod Execute
 pub mod Theorems
 pub mod Sweep
+pub mod Needed
+pub mod Calls
 pub mod Loop

@@ -1,18 +1,18 @@
 -- Demand 3: from where a run of words ends, their partners in reverse order lead back to its start. Statements only: proofs/Sweep.antt proves
 -- each.
-use Prim.Native.Nat.{ℕ, _<_}
+use Prim.Native.Nat.{ℕ}
 use mathlib.Core.Path.{_≡_}
-use mathlib.Core.Logic.{_≢_}
+use mathlib.Core.Logic.{_≢_, _↔_}
 use mathlib.Core.Bool.{cond}
 use mathlib.Core.List.{List, [], _∷_, map, reverse}
 use lib.Dec.{eqb}
-use lib.ListN.{getD}
 use Rattle.settings.specs.declared.Settings.{Settings}
 use Rattle.words.specs.Decode.{decodePaper}
 use Rattle.words.specs.Partner.{partnerPaper}
 use Rattle.words.specs.declared.Family.{Family}
 use Rattle.words.specs.declared.Family.the-variants.{ByElement, Vector, Saturating, LongLong, Long}
 use Rattle.words.specs.declared.Fields.{Fields}
+use Rattle.elements.specs.Elements.{Bytes}
 use Rattle.machine.specs.Execute.{Outcome, refusedWith, executePaper}
 
 -- ---- a run of words
@@ -56,10 +56,6 @@ back s ws z za = runOf (undoPaper s) (reverse ws) (there s ws z za .z) (there s 
 
 -- ---- what is asked of the words
 
--- Z and ZA hold bytes
-abbrev pub Bytes : List ℕ → Type 0
-Bytes l = (i : ℕ) → getD l i 0 < 256
-
 -- "each accepted for execution in its turn". So the settings are valid and Z and ZA have the right lengths, unless there is no word at all
 abbrev pub AcceptedInTurn : Call → List ℕ → List ℕ → List ℕ → Type 0
 AcceptedInTurn call [] z za = Unit {0}
@@ -69,12 +65,9 @@ abbrev pub EveryWord : (ℕ → Type 0) → List ℕ → Type 0
 EveryWord P [] = Unit {0}
 EveryWord P (w ∷ ws) = P w × EveryWord P ws
 
-abbrev pub fieldsOf : Settings → ℕ → Fields
-fieldsOf s w = decodePaper s w .1
-
--- "none saturating": not of family C
+-- "none saturating": what decodes is not of family C
 abbrev pub NotSaturating : Settings → ℕ → Type 0
-NotSaturating s w = fieldsOf s w .family ≢ Saturating
+NotSaturating s w = (f : Fields) → decodePaper s w ≡ (0, f) → f .family ≢ Saturating
 
 -- A and B write a V register, and it is neither source
 abbrev pub SourcesApart : Family → Fields → Type 0
@@ -86,7 +79,7 @@ SourcesApart Long f = Unit {0}
 
 -- "no word that writes a V register naming its destination as a source"
 abbrev pub NotItsOwnSource : Settings → ℕ → Type 0
-NotItsOwnSource s w = SourcesApart (fieldsOf s w .family) (fieldsOf s w)
+NotItsOwnSource s w = (f : Fields) → decodePaper s w ≡ (0, f) → SourcesApart (f .family) f
 
 -- ---- the theorem
 
@@ -103,3 +96,19 @@ SweepCloses =
     (s : Settings) (ws z za : List ℕ) → Bytes z → Bytes za
     → AcceptedInTurn (executePaper s) ws z za → EveryWord (NotSaturating s) ws → EveryWord (NotItsOwnSource s) ws
     → Closes s ws z za
+
+-- ---- what it says of the partners
+
+-- `partner` accepts the word, and `execute` its partner
+abbrev pub BothAccept : Settings → ℕ → List ℕ → List ℕ → Type 0
+BothAccept s w z za = (partnerPaper s w .0 ≡ 0) × (executePaper s (partnerPaper s w .1) z za .number ≡ 0)
+
+-- the number of a step of the way back is 0 exactly where both accept
+abbrev pub UndoAccepts : Type 0
+UndoAccepts = (s : Settings) (w : ℕ) (z za : List ℕ) → (undoPaper s w z za .number ≡ 0) ↔ BothAccept s w z za
+
+-- so a sweep that closes has all its partners accepted, each in its turn
+abbrev pub PartnersAccepted : Type 0
+PartnersAccepted =
+    (s : Settings) (ws z za : List ℕ) → Closes s ws z za
+    → AcceptedInTurn (undoPaper s) (reverse ws) (there s ws z za .z) (there s ws z za .za)

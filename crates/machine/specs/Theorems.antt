@@ -11,7 +11,7 @@ use Rattle.words.specs.Decode.{decodeEnabled}
 use Rattle.words.specs.declared.Family.{Family}
 use Rattle.words.specs.declared.Family.the-variants.{ByElement, Vector, Saturating, LongLong, Long}
 use Rattle.words.specs.declared.Fields.{Fields}
-use Rattle.elements.specs.Elements.{elementOf}
+use Rattle.elements.specs.Elements.{Bytes, elementOf}
 use Rattle.elements.specs.Files.{vectorAt}
 use Rattle.lanes.specs.Lane.{laneStep, satStep}
 use Rattle.bits.specs.Bits.{toggled}
@@ -78,8 +78,7 @@ SameLengths z za o = (length (o .z) ≡ length z) × (length (o .za) ≡ length 
 
 -- bytes stay bytes
 abbrev pub StillBytes : List ℕ → List ℕ → Outcome → Type 0
-StillBytes z za o =
-    ((i : ℕ) → getD z i 0 < 256) → ((i : ℕ) → getD za i 0 < 256) → ((i : ℕ) → getD (o .z) i 0 < 256) × ((i : ℕ) → getD (o .za) i 0 < 256)
+StillBytes z za o = Bytes z → Bytes za → Bytes (o .z) × Bytes (o .za)
 
 -- "Toggled is the number of bits that differ in Z and ZA before and after"
 abbrev pub CountsToggled : List ℕ → List ℕ → Outcome → Type 0

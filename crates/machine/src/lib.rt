@@ -10,7 +10,7 @@ ghost use Rattle.recipes.specs.Recipe.{newLength, perSource};
 ghost use Rattle.machine.specs.Modes.{permits};
 ghost use Rattle.machine.specs.Step.{zaAfter};
 ghost use Rattle.machine.specs.Loop.{made, Grid, place, fresh, Sources, Places, Ready};
-ghost use Rattle.machine.specs.Execute.{executedSays, writtenBits, stepped, Stepped, executeFields, executeDecoded, rightLengths, executePaper};
+ghost use Rattle.machine.specs.Execute.{executedSays, writtenBits, stepped, Stepped, executeFields, executeDecoded, rightLengths, ExecutePromise};
 ghost use Rattle.machine.specs.declared.Executed.the-variants.{Done};
 ghost use Rattle.words.specs.Ranges.{Ranges};
 ghost use Rattle.words.specs.Decode.{decodeEnabled};
@@ -250,7 +250,7 @@ fn execute_word(settings: Settings, word: u32, z: &mut [u8], za: &mut [u8]) -> E
 
 // Executes one word. Z has 32 registers of VL/8 bytes, and ZA VL/8 vectors of VL/8 bytes. A refusal leaves both as they are.
 pub fn execute(settings: Settings, word: u32, z: &mut [u8], za: &mut [u8]) -> Executed
-    ensures { λ r. ⌜ executedSays r (now (z .exit)) (now (za .exit)) ≡ executePaper settings word (now (z .entry)) (now (za .entry)) ⌝ }
+    ensures { λ r. ⌜ ExecutePromise settings word (now (z .entry)) (now (za .entry)) r (now (z .exit)) (now (za .exit)) ⌝ }
 {
     if !settings.valid() {
         return Executed::Refused(Refusal::BadSettings);

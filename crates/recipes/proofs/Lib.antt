@@ -4,3 +4,4 @@ pub mod Choosing
 pub mod Steps
 pub mod Turns
 pub mod Sizes
+pub mod Undone

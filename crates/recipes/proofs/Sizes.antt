@@ -60,7 +60,7 @@ in-half (inr (inr e)) = rw e
 -- ---- an element of the new vector
 
 -- the widest number of a size
-power : (s : Size) → 256 ^ bytesOf s ≡ 2 ^ bitsOf s
+pub power : (s : Size) → 256 ^ bytesOf s ≡ 2 ^ bitsOf s
 power Bits8 = pow256 1
 power Bits16 = pow256 2
 power Bits32 = pow256 4

@@ -2,6 +2,7 @@
 use Prim.Native.Nat.{ℕ}
 use mathlib.Core.Bool.{Bool, true, false, not, cond}
 use mathlib.Core.List.{List, [], _∷_}
+use mathlib.Core.Path.{_≡_}
 use lib.Dec.{eqb}
 use Rattle.layouts.specs.Layout.{matches, flip}
 use Rattle.settings.specs.Refused.{refusalNumber}
@@ -60,3 +61,7 @@ partnerAfter d w = cond (eqb (d .0) 0) (cond (isC (d .1 .family)) (6, 0) (0, par
 -- partner tests 1, 3, 6
 unfoldable pub partnerPaper : Settings → ℕ → ℕ × ℕ
 partnerPaper s w = partnerAfter (decodePaper s w) w
+
+-- what `partner` promises of its answer
+abbrev pub PartnerPromise : Settings → ℕ → Partnered → Type 0
+PartnerPromise s w r = partneredSays r ≡ partnerPaper s w

@@ -4,7 +4,7 @@ ghost use Rattle.layouts.specs.Layout.{matches};
 ghost use Rattle.words.specs.Rows.{rowA, rowB, rowC16, rowC32, rowD2, rowD4, rowE2, rowE4};
 ghost use Rattle.words.specs.Says.{byElement, fieldsA16, fieldsA32, vector, saturating, fieldsC, intoZa, fieldsD, fieldsE, entryA, entryB, tableZa, saysOf, saysFirst, describe as describePaper};
 ghost use Rattle.words.specs.Decode.{enables as enablesPaper, decodedSays, decodeEnabled, decodePaper};
-ghost use Rattle.words.specs.Partner.{partneredSays, partnerPaper};
+ghost use Rattle.words.specs.Partner.{partneredSays, PartnerPromise};
 ghost use Rattle.words.specs.Sign.{partnerIn};
 use layouts::*;
 use settings::Features;
@@ -457,7 +457,7 @@ fn partner_in(family: Family, word: u32) -> Partnered
 
 // The word with S flipped. Refusals 1, 3, 6.
 pub fn partner(settings: Settings, word: u32) -> Partnered
-    ensures { λ r. ⌜ partneredSays r ≡ partnerPaper settings word ⌝ }
+    ensures { λ r. ⌜ PartnerPromise settings word r ⌝ }
 {
     let decoded = decode(settings, word);
     match decoded {

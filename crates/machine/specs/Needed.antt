@@ -1,0 +1,145 @@
+-- Each premise of demand 3 is needed: words that fail one premise each, what the definitions make of them, and that their sweeps do not close.
+use Prim.Native.Nat.{ℕ}
+use mathlib.Core.Path.{_≡_, refl}
+use mathlib.Core.List.{List, [], _∷_, map}
+use Rattle.settings.specs.Valid.{validSettings, vectorBytes, arrayBytes}
+use Rattle.settings.specs.declared.Settings.{Settings}
+use Rattle.words.specs.Says.{describe}
+use Rattle.words.specs.Decode.{enables, decodeEnabled, decodePaper}
+use Rattle.words.specs.Partner.{partnerWord, partnerPaper}
+use Rattle.elements.specs.Elements.{Bytes, elementAt, element, lowBytes, vector}
+use Rattle.elements.specs.Files.{vectorAt, laid, renewed}
+use Rattle.lanes.specs.Lane.{SInt, Int, low, product, accumulate, laneStep, clamp, SignedSat, satStep, step}
+use Rattle.bits.specs.Bits.{overBits, overBytes}
+use Rattle.recipes.specs.Element.{newElement, newBytes}
+use Rattle.machine.specs.Step.{register, newRegister, zAfter, stride, selected, firstVector, writesVector, newVector, zaAfter}
+use Rattle.machine.specs.Execute.{stepped, executeFields, executePaper}
+use Rattle.machine.specs.Sweep.{Report, runOf, there, undoPaper, back, AcceptedInTurn, NotSaturating, NotItsOwnSource, Closes}
+
+-- ---- sweeps of one word, at VL 128
+
+pub record Given : Type 0 where
+  pub features : ℕ
+  pub modes : ℕ
+  pub word : ℕ
+  -- every 16 bits of Z; ZA is all zeros
+  pub each : ℕ
+
+abbrev pub settings : Given → Settings
+settings g = record { vl = 128; features = record { 0 = g .features }; modes = record { 0 = g .modes }; select = 0 ∷ 0 ∷ 0 ∷ 0 ∷ [] }
+
+abbrev pub words : Given → List ℕ
+words g = g .word ∷ []
+
+abbrev pub startZ : Given → List ℕ
+startZ g = vector (λ e. g .each) 2 256
+
+abbrev pub startZa : List ℕ
+startZa = vector (λ e. 0) 2 128
+
+-- ---- what comes of them
+
+pub record Answer : Type 0 where
+  -- the first element of a register: at the start, after the word, and after the way back
+  pub start : ℕ
+  pub after : ℕ
+  pub returned : ℕ
+  -- what the word reports, and what the way back reports
+  pub forward : List Report
+  pub backward : List Report
+
+-- of elements of so many bytes, in a register
+unfoldable pub answerOf : ℕ → ℕ → Given → Answer
+answerOf bytes r g =
+    let z : List ℕ = startZ g in
+    record {
+      start = element bytes (register (settings g) z r) 0;
+      after = element bytes (register (settings g) (there (settings g) (words g) z startZa .z) r) 0;
+      returned = element bytes (register (settings g) (back (settings g) (words g) z startZa .z) r) 0;
+      forward = there (settings g) (words g) z startZa .reports;
+      backward = back (settings g) (words g) z startZa .reports;
+    }
+
+-- ---- the words
+
+-- the destination, 1, is the first source: the partner finds a source that the word has changed
+abbrev pub ownFirst : Given
+ownFirst = record { features = 1; modes = 0; word = 0x0E228021; each = 0x0101 }
+
+-- the destination, 2, is the second source
+abbrev pub ownSecond : Given
+ownSecond = record { features = 1; modes = 0; word = 0x0E228022; each = 0x0101 }
+
+-- C: -32768 squared and doubled is clamped, and so is the difference
+abbrev pub saturates : Given
+saturates = record { features = 2; modes = 0; word = 0x44BA3820; each = 0x8000 }
+
+-- AdvSIMD is missing
+abbrev pub unknown : Given
+unknown = record { features = 2; modes = 0; word = 0x0E228020; each = 0x0101 }
+
+-- SM is on
+abbrev pub wrongMode : Given
+wrongMode = record { features = 5; modes = 1; word = 0x0E228020; each = 0x0101 }
+
+pub record Line : Type 0 where
+  pub bytes : ℕ
+  pub register : ℕ
+  pub given : Given
+  pub answer : Answer
+
+abbrev pub line : ℕ → ℕ → Given → ℕ → ℕ → ℕ → Report → Report → Line
+line bytes register given start after returned forward backward =
+    record {
+      bytes = bytes;
+      register = register;
+      given = given;
+      answer = record { start = start; after = after; returned = returned; forward = forward ∷ []; backward = backward ∷ [] };
+    }
+
+abbrev pub table : List Line
+table =
+    line 2 1 ownFirst 0x0101 0x0102 0x0100 (0, 16, 128) (0, 12, 128)
+    ∷ line 2 2 ownSecond 0x0101 0x0102 0x0100 (0, 16, 128) (0, 12, 128)
+    -- `partner` refuses it. By hand it does not come back either: see `flipped`
+    ∷ line 4 0 saturates 0x80008000 0x80000000 0x80000000 (0, 4, 128) (6, 0, 0)
+    -- nothing changes, but the partner is not accepted: `partner` refuses the one, `execute` the other's partner
+    ∷ line 2 0 unknown 0x0101 0x0101 0x0101 (3, 0, 0) (3, 0, 0)
+    ∷ line 2 0 wrongMode 0x0101 0x0101 0x0101 (4, 0, 0) (4, 0, 0)
+    ∷ []
+
+-- the definitions answer each line as the table does
+pub answers-hold : map (λ (l : Line). answerOf (l .bytes) (l .register) (l .given)) table ≡ map (λ (l : Line). l .answer) table
+unfolding answerOf decodePaper decodeEnabled describe enables validSettings vectorBytes arrayBytes
+    elementAt lowBytes vector vectorAt laid renewed SInt Int low product accumulate laneStep clamp SignedSat satStep step overBits overBytes
+    newElement newBytes newRegister zAfter stride selected firstVector writesVector newVector zaAfter stepped executeFields executePaper
+    runOf undoPaper partnerWord partnerPaper
+answers-hold = refl
+
+-- 44BA2820 is 44BA3820 with S flipped
+unfoldable pub flipped : Given → ℕ
+flipped g = element 4 (executePaper (settings g) 0x44BA2820 (there (settings g) (words g) (startZ g) startZa .z) startZa .z) 0
+
+pub flipped-is : flipped saturates ≡ 0xFFFFFFFF
+unfolding flipped decodePaper decodeEnabled describe enables validSettings vectorBytes arrayBytes
+    elementAt lowBytes vector vectorAt laid renewed SInt Int low product accumulate laneStep clamp SignedSat satStep step overBits overBytes
+    newElement newBytes newRegister zAfter stride selected firstVector writesVector newVector zaAfter stepped executeFields executePaper runOf
+flipped-is = refl
+
+-- ---- none of their sweeps closes, though each meets the other premises (proofs/Needed.antt)
+
+pub record Open (g : Given) (Meets : Type 0) : Type 0 where
+  pub z-bytes : Bytes (startZ g)
+  pub za-bytes : Bytes startZa
+  pub meets : Meets
+  pub not-closed : Closes (settings g) (words g) (startZ g) startZa → ⊥
+
+abbrev pub IsAccepted : Given → Type 0
+IsAccepted g = AcceptedInTurn (executePaper (settings g)) (words g) (startZ g) startZa
+
+pub record EachNeeded : Type 0 where
+  pub own-first : Open ownFirst (IsAccepted ownFirst × NotSaturating (settings ownFirst) (ownFirst .word))
+  pub own-second : Open ownSecond (IsAccepted ownSecond × NotSaturating (settings ownSecond) (ownSecond .word))
+  pub saturating : Open saturates (IsAccepted saturates × NotItsOwnSource (settings saturates) (saturates .word))
+  pub not-known : Open unknown (NotSaturating (settings unknown) (unknown .word) × NotItsOwnSource (settings unknown) (unknown .word))
+  pub not-permitted : Open wrongMode (NotSaturating (settings wrongMode) (wrongMode .word) × NotItsOwnSource (settings wrongMode) (wrongMode .word))
