@@ -11,9 +11,9 @@ use lib.ListN.{length, getD, take, drop, length-append, length-take, length-drop
 use lib.Seq.{take-all, take-add, take-at, drop-at, drop-drop, take-append-le, drop-append-le, length-take-le, getD-take, getD-drop, ext-getD}
 use lib.Dec.{lit<}
 use Rattle.laws.proofs.Tests.{cond-holds, never-both}
-use Rattle.elements.specs.Elements.{elementAt, splice}
+use Rattle.elements.specs.Elements.{splice}
 use Rattle.elements.specs.Files.{vectorAt, laid, renewed, replaced}
-use Rattle.elements.proofs.Elements.{Bytes, Bytes-append, Bytes-take, Bytes-drop, Bytes-splice, elementAt-take, elementAt-drop}
+use Rattle.elements.proofs.Elements.{Bytes, Bytes-append, Bytes-take, Bytes-drop, Bytes-splice}
 use Rattle.elements.proofs.Vectors.{within}
 
 -- vector v ends where the next one begins
@@ -50,12 +50,6 @@ module _ (at : ℕ) (x s : List ℕ) (fit : at + length x ≤ length s) where
   -- byte by byte
   pub splice-before : (i : ℕ) → i < at → getD (splice at x s) i 0 ≡ getD s i 0
   splice-before i h = sym (getD-take at (splice at x s) i 0 h) ∙ rw take-splice (getD-take at s i 0 h)
-
-  pub splice-in : (i : ℕ) → i < length x → getD (splice at x s) (at + i) 0 ≡ getD x i 0
-  splice-in i h =
-      sym (getD-drop at (splice at x s) i 0)
-      ∙ sym (getD-take (length x) (drop at (splice at x s)) i 0 h)
-      ∙ ap (λ (l : List ℕ). getD l i 0) part-splice
 
   pub splice-after : (i : ℕ) → at + length x ≤ i → getD (splice at x s) i 0 ≡ getD s i 0
   splice-after i h =
@@ -95,11 +89,6 @@ length-vectorAt w v s h = length-take-le w (drop (v * w) s) (rw length-drop (ome
 pub Bytes-vectorAt : (w v : ℕ) (s : List ℕ) → Bytes s → Bytes (vectorAt w v s)
 unfolding vectorAt
 Bytes-vectorAt w v s b = Bytes-take w (drop (v * w) s) (Bytes-drop (v * w) s b)
-
--- an element of a vector is one of the file
-pub elementAt-vectorAt : (k at w v : ℕ) (s : List ℕ) → at + k ≤ w → elementAt k at (vectorAt w v s) ≡ elementAt k (v * w + at) s
-unfolding vectorAt
-elementAt-vectorAt k at w v s h = elementAt-take k at w (drop (v * w) s) h ∙ elementAt-drop k at (v * w) s
 
 module _ (w v : ℕ) (x s : List ℕ) (long : length x ≡ w) (fit : (v + 1) * w ≤ length s) where
   fits : v * w + length x ≤ length s
@@ -161,11 +150,6 @@ laid-take w (suc n) s = rw (laid-take w n s, suc-mul) (sym (take-add (n * w) w s
 -- a file is its vectors one after the other
 pub laid-vectorAt : (w n : ℕ) (s : List ℕ) → length s ≡ n * w → laid (λ v. vectorAt w v s) n ≡ s
 laid-vectorAt w n s long = laid-take w n s ∙ take-all (n * w) s (omega arith)
-
--- a file is known by its vectors
-pub vectors-known : (w n : ℕ) (s t : List ℕ) → length s ≡ n * w → length t ≡ n * w → ((v : ℕ) → v < n → vectorAt w v s ≡ vectorAt w v t) → s ≡ t
-vectors-known w n s t ls lt h =
-    sym (laid-vectorAt w n s ls) ∙ laid-cong (λ v. vectorAt w v s) (λ v. vectorAt w v t) n h ∙ laid-vectorAt w n t lt
 
 -- ---- a file in which some vectors are new
 

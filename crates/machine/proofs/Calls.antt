@@ -2,7 +2,6 @@
 use Prim.Native.Nat.{ℕ, suc}
 use native.Mathlib.Omega.{arith}
 use mathlib.Core.Path.{_≡_, refl, sym, ap, ap₂, _∙_, subst}
-use mathlib.Core.Logic.{_≢_}
 use mathlib.Core.List.{List, [], _∷_, map, reverse, reverseAux}
 use lib.ListN.{length}
 use Rattle.settings.specs.Refused.{refusalNumber}
@@ -12,7 +11,8 @@ use Rattle.words.specs.Partner.{partneredSays, partnerPaper}
 use Rattle.words.specs.declared.Partnered.{Partnered}
 use Rattle.words.specs.declared.Partnered.the-variants as partnered
 use Rattle.machine.specs.Execute.{Outcome, executedSays, executePaper, ExecutePromise}
-use Rattle.machine.specs.Sweep.{Report, reportOf, Run, Call, reportFirst, runOf, there, undoPaper, back, AcceptedInTurn, acceptedWith}
+use Rattle.machine.specs.Run.{Report, Run, Call, reportFirst, runOf}
+use Rattle.machine.specs.Sweep.{there, undoPaper, AcceptedInTurn, acceptedWith}
 use Rattle.machine.specs.Calls.{Promise, Calls, none, next, Followed, UndoCalls, AllDone, CallersSee}
 use Rattle.machine.specs.declared.Executed.{Executed}
 use Rattle.machine.specs.declared.Executed.the-variants.{Done, Refused}

@@ -1,12 +1,15 @@
 -- What a step leaves in Z and in ZA: each written element, everything else, lengths, bytes and the bits that change. Assumes nothing.
 use Prim.Native.Nat.{ℕ, _+_, _-_, _*_, _/_, _%_, _≤_, _<_}
 use native.Mathlib.Omega.{arith}
-use mathlib.Core.Path.{_≡_, sym, ap, _∙_}
-use mathlib.Core.Logic.{_⊎_, inl, inr}
+use mathlib.Core.Path.{_≡_, refl, sym, ap, _∙_}
+use mathlib.Core.Logic.{_⊎_, inl, inr, _≢_}
 use mathlib.Core.Bool.{true, cond}
-use mathlib.Core.List.{List}
-use lib.ListN.{length, getD}
+use mathlib.Core.List.{List, _++_}
+use lib.Dec.{eqb}
+use lib.ListN.{length, getD, drop}
+use lib.Seq.{take-at}
 use lib.Bits.{differ}
+use borrow.Author.Tests.{eq-eqb, ne-eqb}
 use Rattle.laws.proofs.Tests.{failed}
 use Rattle.settings.specs.Lengths.{VectorLength}
 use Rattle.settings.specs.Valid.{vectorBytes, arrayBytes}
@@ -14,11 +17,11 @@ use Rattle.settings.specs.declared.Settings.{Settings}
 use Rattle.words.specs.Ranges.{Ranges}
 use Rattle.words.specs.declared.Fields.{Fields}
 use Rattle.elements.specs.Size.{bytesOf}
-use Rattle.elements.specs.Elements.{element, elementOf, splice}
-use Rattle.elements.proofs.Elements.{Bytes, elementAt-same, Bytes-splice}
+use Rattle.elements.specs.Elements.{element, elementOf}
+use Rattle.elements.proofs.Elements.{Bytes, elementAt-take, Bytes-splice}
 use Rattle.elements.proofs.Vectors.{within}
-use Rattle.elements.proofs.Files.{next, room, length-splice, splice-before, splice-in, splice-after}
-use Rattle.elements.proofs.Files.{elementAt-vectorAt, vectorAt-renewed, length-replaced, Bytes-replaced}
+use Rattle.elements.proofs.Files.{next, room, length-splice, splice-before, splice-after}
+use Rattle.elements.proofs.Files.{vectorAt-renewed, length-replaced, Bytes-replaced}
 use Rattle.bits.specs.Bits.{toggled}
 use Rattle.bits.proofs.Bits.{differ-unmoved, differ-once, bytes-splice-le}
 use Rattle.bits.proofs.Files.{bytes-replaced-le}
@@ -26,12 +29,12 @@ use Rattle.recipes.specs.Recipe.{recipeOf, newLength, perSource}
 use Rattle.recipes.specs.Element.{newBytes}
 use Rattle.recipes.specs.declared.Recipe.{Recipe}
 use Rattle.recipes.proofs.Built.{whole-elements, length-newBytes, Bytes-newBytes}
-use Rattle.machine.specs.Step.{register, zAfter, stride, firstVector, writesVector, newVector, zaAfter}
+use Rattle.machine.specs.Step.{register, newRegister, zAfter, stride, firstVector, writesVector, newVector, zaAfter}
 use Rattle.machine.specs.Loop.{place, fresh}
 use Rattle.machine.specs.Theorems.{zaVector, Among}
 use Rattle.machine.proofs.Grid.{row-of, within-row, row-lt, Written, by-row, place-distinct}
 use Rattle.machine.proofs.Array.{IntoZa, grid, tested, passes, placed, array-is}
-use Rattle.machine.proofs.Registers.{new-length, long-x, register-is}
+use Rattle.machine.proofs.Registers.{new-length, long-x, long-register, register-is}
 use Rattle.recipes.proofs.Sizes.{InBits, newOf, bytes-of-wide, counted-in-bits, element-in-bits}
 
 -- ---- Z
@@ -70,13 +73,26 @@ module _ (s : Settings) (v : VectorLength (vectorBytes s)) (f : Fields) (g : Ran
   z-elsewhere i (inl h) = rw (← register-is s v f g z z-long) (splice-before at x z fit i h)
   z-elsewhere i (inr h) = rw (← register-is s v f g z z-long) (splice-after at x z fit i (omega (arith, long)))
 
+  -- register by register: the destination is new, and every other as it was
+  each-z : (r : ℕ) → r < 32 → register s (zAfter s f z) r ≡ cond (eqb r (f .destination)) (newRegister s f z) (register s z r)
+  unfolding zAfter
+  each-z r h =
+      vectorAt-renewed (λ r. eqb r (f .destination)) (λ r. newRegister s f z) w 32 z z-long (λ r h e. long-register s v f g z z-long) r h
+
+  pub z-new : register s (zAfter s f z) (f .destination) ≡ newRegister s f z
+  z-new = each-z (f .destination) (g .destination) ∙ rw (eq-eqb (f .destination) (f .destination) refl)
+
+  pub z-same : (r : ℕ) → r < 32 → f .destination ≢ r → register s (zAfter s f z) r ≡ register s z r
+  z-same r h apart = each-z r h ∙ rw (ne-eqb r (f .destination) (λ e. apart (sym e)))
+
   -- an element of the destination
   whole-element : (k e : ℕ) → e * k + k ≤ n → element k (register s (zAfter s f z) (f .destination)) e ≡ element k x e
+  unfolding newRegister
   whole-element k e h =
-      elementAt-vectorAt k (e * k) w (f .destination) (zAfter s f z) (omega (arith, new-length (f .family) w v .1))
-      ∙ rw (← register-is s v f g z z-long)
-      (elementAt-same k (at + e * k) (e * k) (splice at x z) x
-      (λ i q. ap (λ (j : ℕ). getD (splice at x z) j 0) (omega arith) ∙ splice-in at x z fit (e * k + i) (omega (arith, long))))
+      let rest : List ℕ = drop n (register s z (f .destination)) in
+      ap (λ (l : List ℕ). element k l e) z-new
+      ∙ sym (elementAt-take k (e * k) n (x ++ rest) h)
+      ∙ ap (λ (l : List ℕ). element k l e) (take-at x rest n long)
 
   pub z-element : (lane wide : ℕ) → InBits (recipeOf (f .family) f 0) lane wide → (e : ℕ) → e < 8 * newLength (f .family) (vectorBytes s) / wide
       → elementOf wide (register s (zAfter s f z) (f .destination)) e

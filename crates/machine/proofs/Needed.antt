@@ -3,7 +3,7 @@ use Prim.Native.Nat.{ℕ, zero, suc}
 use native.Mathlib.Omega.{arith}
 use mathlib.Core.Path.{_≡_, refl, sym, ap, _∙_, subst}
 use mathlib.Core.Logic.{_≢_}
-use mathlib.Core.Bool.{Bool, false}
+use mathlib.Core.Bool.{false}
 use mathlib.Core.List.{List, [], _∷_}
 use Rattle.laws.proofs.Tests.{never-both}
 use Rattle.settings.specs.Valid.{validSettings, vectorBytes, arrayBytes}
@@ -17,8 +17,9 @@ use Rattle.elements.specs.Elements.{lowBytes, vector, element}
 use Rattle.elements.proofs.Vectors.{Bytes-vector}
 use Rattle.machine.specs.Step.{register}
 use Rattle.machine.specs.Execute.{stepped, executeFields, executePaper}
-use Rattle.machine.specs.Sweep.{Report, Run, runOf, back, SourcesApart, NotSaturating, NotItsOwnSource, Closes}
-use Rattle.machine.specs.Needed.{Given, settings, words, startZ, startZa, Answer, answerOf, ownFirst, ownSecond, saturates, unknown, wrongMode, Line, answers-hold, Open, EachNeeded}
+use Rattle.machine.specs.Run.{Report, Run, runOf}
+use Rattle.machine.specs.Sweep.{SourcesApart, Closes}
+use Rattle.machine.specs.Needed.{Given, settings, words, startZ, startZa, Answer, answerOf, ownFirst, ownSecond, saturates, unknown, wrongMode, answers-hold, Open, EachNeeded}
 
 first-number : List Report → ℕ
 first-number [] = 0
@@ -94,8 +95,9 @@ each-needed =
           (no-fields (decodedAs unknown) Wraps (λ (e : _≡_ {A = ℕ} 3 0). omega arith), no-fields (decodedAs unknown) Apart (λ (e : _≡_ {A = ℕ} 3 0). omega arith))
           (refused 2 0 unknown _ (ap (nth 3) answers-hold) (λ (e : _≡_ {A = ℕ} 3 0). omega arith));
       not-permitted =
-          stays-open wrongMode _
-          (by-fields (decodedAs wrongMode) Wraps (other _ refl),
-           by-fields (decodedAs wrongMode) Apart ((λ (e : _≡_ {A = ℕ} 0 1). omega arith), (λ (e : _≡_ {A = ℕ} 0 2). omega arith)))
+          stays-open wrongMode _ (
+            by-fields (decodedAs wrongMode) Wraps (other _ refl),
+            by-fields (decodedAs wrongMode) Apart ((λ (e : _≡_ {A = ℕ} 0 1). omega arith), (λ (e : _≡_ {A = ℕ} 0 2). omega arith)),
+          )
           (refused 2 0 wrongMode _ (ap (nth 4) answers-hold) (λ (e : _≡_ {A = ℕ} 4 0). omega arith));
     }

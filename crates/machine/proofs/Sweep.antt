@@ -17,7 +17,8 @@ use Rattle.words.proofs.Answers.{partner-accepted, PartnerOf}
 use Rattle.elements.specs.Elements.{Bytes}
 use Rattle.machine.specs.Execute.{Outcome, refusedWith, stepped, executePaper}
 use Rattle.machine.specs.Theorems.{Accepted}
-use Rattle.machine.specs.Sweep.{Report, reportOf, Run, Call, reportFirst, runOf, there, undoPaper, back}
+use Rattle.machine.specs.Run.{Report, reportOf, Run, Call, reportFirst, runOf}
+use Rattle.machine.specs.Sweep.{there, undoPaper}
 use Rattle.machine.specs.Sweep.{AcceptedInTurn, EveryWord, NotSaturating, SourcesApart, NotItsOwnSource, acceptedWith, SweepCloses}
 use Rattle.machine.specs.Sweep.{BothAccept, UndoAccepts, PartnersAccepted}
 use Rattle.machine.proofs.Theorems.{accepted-exactly, accepted-steps, lengths-kept, bytes-kept}
@@ -28,11 +29,13 @@ use Rattle.machine.proofs.Undoing.{undoneFrom, step-back}
 module _ (s : Settings) (w : ℕ) (z za : List ℕ) where
   pub undo-word : (v : ℕ) → (0, v) ≡ partnerPaper s w → executePaper s v z za ≡ undoPaper s w z za
   unfolding undoPaper
-  undo-word v e = rw (← e)
+  undo-word v e = ap (λ (p : ℕ × ℕ). cond (eqb (p .0) 0) (executePaper s (p .1) z za) (refusedWith (p .0) z za)) e
 
   pub undo-refused : (n : ℕ) → (n, 0) ≡ partnerPaper s w → n ≢ 0 → refusedWith n z za ≡ undoPaper s w z za
   unfolding undoPaper
-  undo-refused n e h = rw (← e, ne-eqb n 0 h)
+  undo-refused n e h =
+      ap (λ (t : Bool). cond t (executePaper s 0 z za) (refusedWith n z za)) (sym (ne-eqb n 0 h))
+      ∙ ap (λ (p : ℕ × ℕ). cond (eqb (p .0) 0) (executePaper s (p .1) z za) (refusedWith (p .0) z za)) e
 
 -- ---- one word
 

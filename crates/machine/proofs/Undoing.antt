@@ -1,14 +1,13 @@
 -- A step is undone by the step of the same fields with `subtract` flipped. Assumes nothing.
-use Prim.Native.Nat.{ℕ, _+_, _-_, _*_, _/_, _%_, _≤_, _<_}
+use Prim.Native.Nat.{ℕ, _+_, _-_, _*_, _/_, _%_, _<_}
 use native.Mathlib.Omega.{arith}
 use mathlib.Core.Path.{_≡_, refl, sym, ap, ap₂, _∙_, subst}
 use mathlib.Core.Logic.{_≢_, inl, inr, ⊎-elim}
-use mathlib.Core.Bool.{true, false, cond}
-use mathlib.Core.List.{List, _++_}
+use mathlib.Core.Bool.{true, false}
+use mathlib.Core.List.{List}
 use lib.Dec.{eqb}
-use lib.ListN.{length, take, drop, take-append-drop}
-use lib.Seq.{take-all, take-at, drop-at}
-use borrow.Author.Tests.{eqb-true, eq-eqb, ne-eqb}
+use lib.ListN.{length}
+use borrow.Author.Tests.{eqb-true}
 use Rattle.settings.specs.Lengths.{VectorLength}
 use Rattle.settings.specs.Valid.{vectorBytes, arrayBytes}
 use Rattle.settings.specs.declared.Settings.{Settings}
@@ -23,8 +22,6 @@ use Rattle.elements.proofs.Elements.{Bytes}
 use Rattle.elements.proofs.Files.{room, length-vectorAt, Bytes-vectorAt, vectorAt-renewed, renewed-undone}
 use Rattle.bits.proofs.Bits.{toggled-comm}
 use Rattle.recipes.specs.Recipe.{recipeOf, newLength, perSource}
-use Rattle.recipes.specs.Element.{newBytes}
-use Rattle.recipes.specs.declared.Recipe.{Recipe}
 use Rattle.recipes.proofs.Built.{length-newBytes}
 use Rattle.recipes.proofs.Undone.{recipe-turned, undo-vector, undo-whole}
 use Rattle.machine.specs.Step.{register, newRegister, zAfter, stride, selected, firstVector, writesVector, newVector, zaAfter}
@@ -34,102 +31,79 @@ use Rattle.machine.specs.Sweep.{SourcesApart}
 use Rattle.machine.specs.Loop.{IntoZa}
 use Rattle.machine.proofs.Stepping.{IntoZ, which-file, steppedZ, steppedZa, stepped-z, stepped-za}
 use Rattle.machine.proofs.Outcomes.{accepted-ranges}
-use Rattle.machine.proofs.Registers.{new-length, long-x, long-register}
+use Rattle.machine.proofs.Registers.{new-length, long-register}
+use Rattle.machine.proofs.Effects.{z-new, z-same}
 
 -- ---- A and B: into Z
 
-module _ (s : Settings) (v : VectorLength (vectorBytes s)) (f : Fields) (g : Ranges f) (z : List ℕ) (long : length z ≡ 32 * vectorBytes s) where
+module _ (s : Settings) (v : VectorLength (vectorBytes s)) (f : Fields) (g : Ranges f) (z : List ℕ) (long : length z ≡ 32 * vectorBytes s) (b : Bytes z)
+    (wraps : recipeOf (f .family) f 0 .saturating ≡ false) where
   abbrev w : ℕ
   w = vectorBytes s
 
   abbrev d : ℕ
   d = f .destination
 
-  abbrev z′ : List ℕ
-  z′ = zAfter s f z
+  -- the partner finds the same sources, and leaves the destination that there was
+  register-back : f .first < 32 → f .second < 32 → f .destination ≢ f .first → f .destination ≢ f .second
+      → newRegister s (turned f) (zAfter s f z) ≡ register s z (f .destination)
+  unfolding newRegister turned
+  register-back hf hs not-first not-second =
+      let n : ℕ = newLength (f .family) w in
+      let old-long : length (register s z d) ≡ w = length-vectorAt w d z (room d 32 w z long (g .destination)) in
+      undo-vector (recipeOf (f .family) f 0) (recipeOf (f .family) (turned f) 0) n (register s z d) (register s z (f .first)) (register s z (f .second))
+      (register s (zAfter s f z) d) (register s (zAfter s f z) (f .first)) (register s (zAfter s f z) (f .second))
+      (recipe-turned (f .family) f 0) wraps (new-length (f .family) w v .0)
+      (Bytes-vectorAt w d z b) (omega (arith, new-length (f .family) w v .1))
+      (z-new s v f g z long) (z-same s v f g z long (f .first) hf not-first) (z-same s v f g z long (f .second) hs not-second)
 
-  each : (r : ℕ) → r < 32 → register s (zAfter s f z) r ≡ cond (eqb r (f .destination)) (newRegister s f z) (register s z r)
-  unfolding zAfter
-  each r h = vectorAt-renewed (λ r. eqb r d) (λ r. newRegister s f z) w 32 z long (λ r h e. long-register s v f g z long) r h
-
-  -- the destination is new, and a source that is another register is as it was
-  new-destination : register s (zAfter s f z) (f .destination) ≡ newRegister s f z
-  new-destination = each d (g .destination) ∙ rw (eq-eqb d d refl)
-
-  same-source : (r : ℕ) → r < 32 → f .destination ≢ r → register s (zAfter s f z) r ≡ register s z r
-  same-source r h apart = each r h ∙ rw (ne-eqb r d (λ e. apart (sym e)))
-
-  module _ (wraps : recipeOf (f .family) f 0 .saturating ≡ false) (b : Bytes z) (not-first : f .destination ≢ f .first)
-      (not-second : f .destination ≢ f .second) (first-in : f .first < 32) (second-in : f .second < 32) where
-    abbrev n : ℕ
-    n = newLength (f .family) w
-
-    abbrev old : List ℕ
-    old = register s z d
-
-    old-long : length old ≡ w
-    old-long = length-vectorAt w d z (room d 32 w z long (g .destination))
-
-    -- the partner finds the same sources, and leaves the destination that there was
-    register-back : newRegister s (turned f) (zAfter s f z) ≡ register s z (f .destination)
-    unfolding newRegister turned
-    register-back =
-        undo-vector (recipeOf (f .family) f 0) (recipeOf (f .family) (turned f) 0) n old (register s z (f .first)) (register s z (f .second))
-        (register s z′ d) (register s z′ (f .first)) (register s z′ (f .second))
-        (recipe-turned (f .family) f 0) wraps (new-length (f .family) w v .0)
-        (Bytes-vectorAt w d z b) (omega (arith, old-long, new-length (f .family) w v .1))
-        new-destination (same-source (f .first) first-in not-first) (same-source (f .second) second-in not-second)
-
-    pub z-back : zAfter s (turned f) (zAfter s f z) ≡ z
-    unfolding zAfter turned
-    z-back =
-        renewed-undone (λ r. eqb r d) (λ r. newRegister s f z) (λ r. newRegister s (turned f) z′) w 32 z long
-        (λ r h e. long-register s v f g z long)
-        (λ r h e. register-back ∙ ap (register s z) (sym (eqb-true r d e)))
+  z-back : f .first < 32 → f .second < 32 → f .destination ≢ f .first → f .destination ≢ f .second → zAfter s (turned f) (zAfter s f z) ≡ z
+  unfolding zAfter turned
+  z-back hf hs not-first not-second =
+      renewed-undone (λ r. eqb r d) (λ r. newRegister s f z) (λ r. newRegister s (turned f) (zAfter s f z)) w 32 z long
+      (λ r h e. long-register s v f g z long)
+      (λ r h e. register-back hf hs not-first not-second ∙ ap (register s z) (sym (eqb-true r d e)))
 
 -- ---- D and E: into ZA
 
-module _ (s : Settings) (v : VectorLength (arrayBytes s)) (f : Fields) (wraps : (i : ℕ) → recipeOf (f .family) f i .saturating ≡ false)
-    (z za : List ℕ) (long : length za ≡ arrayBytes s * arrayBytes s) (b : Bytes za) where
+module _ (s : Settings) (v : VectorLength (arrayBytes s)) (f : Fields) (z za : List ℕ) (long : length za ≡ arrayBytes s * arrayBytes s) (b : Bytes za)
+    (wraps : (i : ℕ) → recipeOf (f .family) f i .saturating ≡ false) where
   abbrev w-za : ℕ
   w-za = arrayBytes s
 
-  -- vector u of the new ZA, by row and place in the row
+  -- vector u, by its row and its place in the row, where a word of these fields finds the given ZA
   abbrev new : Fields → List ℕ → ℕ → List ℕ
-  new g a u = newVector s g z (u / stride s f) (u % stride s f - firstVector s f) (vectorAt w-za u a)
+  new h a u = newVector s h z (u / stride s f) (u % stride s f - firstVector s f) (vectorAt w-za u a)
 
   wide : (u : ℕ) → length (new f za u) ≡ w-za
   unfolding newVector
   wide u = length-newBytes _ w-za _ _ _ (omega (arith, v .whole))
 
-  abbrev za′ : List ℕ
-  za′ = zaAfter s f z za
-
-  vector-back : (u : ℕ) → u < arrayBytes s → writesVector s f u ≡ true → new (turned f) za′ u ≡ vectorAt w-za u za
+  vector-back : (u : ℕ) → u < arrayBytes s → writesVector s f u ≡ true → new (turned f) (zaAfter s f z za) u ≡ vectorAt w-za u za
   unfolding newVector zaAfter turned
   vector-back u h e =
       let i : ℕ = u % stride s f - firstVector s f in
-      let old : List ℕ = vectorAt w-za u za in
-      let old-long : length old ≡ w-za = length-vectorAt w-za u za (room u w-za w-za za long h) in
-      let first : List ℕ = register s z (f .first + u / stride s f) in
-      let second : List ℕ = register s z (f .second + u / stride s f) in
-      let now : vectorAt w-za u za′ ≡ new f za u =
+      let old-long : length (vectorAt w-za u za) ≡ w-za = length-vectorAt w-za u za (room u w-za w-za za long h) in
+      let now : vectorAt w-za u (zaAfter s f z za) ≡ new f za u =
       vectorAt-renewed (writesVector s f) (new f za) w-za w-za za long (λ u h e. wide u) u h ∙ rw e in
-      undo-whole (recipeOf (f .family) f i) (recipeOf (f .family) (turned f) i) w-za old first second (vectorAt w-za u za′)
+      undo-whole (recipeOf (f .family) f i) (recipeOf (f .family) (turned f) i) w-za (vectorAt w-za u za)
+      (register s z (f .first + u / stride s f)) (register s z (f .second + u / stride s f)) (vectorAt w-za u (zaAfter s f z za))
       (recipe-turned (f .family) f i) (wraps i) (omega (arith, v .whole)) (Bytes-vectorAt w-za u za b) old-long now
 
-  pub za-back : zaAfter s (turned f) z (zaAfter s f z za) ≡ za
+  za-back : zaAfter s (turned f) z (zaAfter s f z za) ≡ za
   unfolding zaAfter turned writesVector stride selected firstVector
-  za-back =
-      renewed-undone (writesVector s f) (new f za) (new (turned f) za′) w-za w-za za long (λ u h e. wide u) vector-back
+  za-back = renewed-undone (writesVector s f) (new f za) (new (turned f) (zaAfter s f z za)) w-za w-za za long (λ u h e. wide u) vector-back
 
 -- ---- the step
 
+-- the outcome `o` is undone: back to z and za, with its counts
+abbrev pub undoneFrom : Outcome → List ℕ → List ℕ → Outcome
+undoneFrom o z za = record { number = 0; toggled = o .toggled; written = o .written; z = z; za = za }
+
 -- a step and the step back change the same bits
-counted-back : (n : ℕ) (z za z′ za′ : List ℕ)
-    → counted n z′ za′ z za ≡ record { number = 0; toggled = counted n z za z′ za′ .toggled; written = n; z = z; za = za }
-counted-back n z za z′ za′ =
-    ap (λ (t : ℕ). record { number = 0; toggled = t; written = n; z = z; za = za }) (ap₂ _+_ (toggled-comm z′ z) (toggled-comm za′ za))
+counted-back : (written : ℕ) (z za z′ za′ : List ℕ) → counted written z′ za′ z za ≡ undoneFrom (counted written z za z′ za′) z za
+counted-back written z za z′ za′ =
+    ap (λ (t : ℕ). record { number = 0; toggled = t; written = written; z = z; za = za }) (ap₂ _+_ (toggled-comm z′ z) (toggled-comm za′ za))
 
 -- the products of these wrap
 wrapping : (family : Family) (f : Fields) (i : ℕ) → family ≢ Saturating → recipeOf family f i .saturating ≡ false
@@ -152,10 +126,6 @@ single f (inr (inl e)) o c p =
     (subst (λ (x : Family). OfFamily x f) e o, q .0, q .1)
 single f (inr (inr e)) o c p = absurd (c e)
 
--- the outcome `o` is undone: back to z and za, with its counts
-abbrev pub undoneFrom : Outcome → List ℕ → List ℕ → Outcome
-undoneFrom o z za = record { number = 0; toggled = o .toggled; written = o .written; z = z; za = za }
-
 module _ (s : Settings) (w : ℕ) (f : Fields) (z za : List ℕ) (a : Accepted s w f z za) (bz : Bytes z) (bza : Bytes za) (not-c : f .family ≢ Saturating) where
   g : Ranges f
   g = accepted-ranges s w z za f a
@@ -170,8 +140,8 @@ module _ (s : Settings) (w : ℕ) (f : Fields) (z za : List ℕ) (a : Accepted s
       let n : ℕ = 8 * newLength (f .family) (vectorBytes s) in
       let q : Single f = single f i (g .of-family) not-c p in
       let same : zAfter s (turned f) (zAfter s f z) ≡ z =
-      z-back s (vector-length s (a .valid)) f g z (a .z-exact) (wrapping (f .family) f 0 not-c) bz (q .1) (q .2)
-      (omega (arith, g .first, q .0)) (omega (arith, g .second, q .0)) in
+      z-back s (vector-length s (a .valid)) f g z (a .z-exact) bz (wrapping (f .family) f 0 not-c)
+      (omega (arith, g .first, q .0)) (omega (arith, g .second, q .0)) (q .1) (q .2) in
       stepped-z s (turned f) (zAfter s f z) za i
       ∙ ap (λ (x : List ℕ). counted n (zAfter s f z) za x za) same
       ∙ counted-back n z za (zAfter s f z) za
@@ -181,7 +151,7 @@ module _ (s : Settings) (w : ℕ) (f : Fields) (z za : List ℕ) (a : Accepted s
   into-za i =
       let n : ℕ = 8 * vectorBytes s * f .group * perSource (f .family) in
       let same : zaAfter s (turned f) z (zaAfter s f z za) ≡ za =
-      za-back s (array-length s (a .valid)) f (λ i. wrapping (f .family) f i not-c) z za (a .za-exact) bza in
+      za-back s (array-length s (a .valid)) f z za (a .za-exact) bza (λ i. wrapping (f .family) f i not-c) in
       stepped-za s (turned f) z (zaAfter s f z za) i
       ∙ ap (λ (x : List ℕ). counted n z (zaAfter s f z za) z x) same
       ∙ counted-back n z za z (zaAfter s f z za)

@@ -2,6 +2,7 @@ pub mod Modes
 pub mod Step
 pub mod Execute
 pub mod Theorems
+pub mod Run
 pub mod Sweep
 pub mod Needed
 pub mod Calls

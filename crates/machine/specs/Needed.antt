@@ -14,7 +14,8 @@ use Rattle.bits.specs.Bits.{overBits, overBytes}
 use Rattle.recipes.specs.Element.{newElement, newBytes}
 use Rattle.machine.specs.Step.{register, newRegister, zAfter, stride, selected, firstVector, writesVector, newVector, zaAfter}
 use Rattle.machine.specs.Execute.{stepped, executeFields, executePaper}
-use Rattle.machine.specs.Sweep.{Report, runOf, there, undoPaper, back, AcceptedInTurn, NotSaturating, NotItsOwnSource, Closes}
+use Rattle.machine.specs.Run.{Report, runOf}
+use Rattle.machine.specs.Sweep.{there, undoPaper, back, AcceptedInTurn, NotSaturating, NotItsOwnSource, Closes}
 
 -- ---- sweeps of one word, at VL 128
 

@@ -1,5 +1,5 @@
 -- Demand 3: from where a run of words ends, their partners in reverse order lead back to its start. Statements only: proofs/Sweep.antt proves
--- each.
+-- each. A word is any number, so also one of 32 bits; its partner then has 32 bits too (`partner-fits` in words).
 use Prim.Native.Nat.{ℕ}
 use mathlib.Core.Path.{_≡_}
 use mathlib.Core.Logic.{_≢_, _↔_}
@@ -13,36 +13,12 @@ use Rattle.words.specs.declared.Family.{Family}
 use Rattle.words.specs.declared.Family.the-variants.{ByElement, Vector, Saturating, LongLong, Long}
 use Rattle.words.specs.declared.Fields.{Fields}
 use Rattle.elements.specs.Elements.{Bytes}
-use Rattle.machine.specs.Execute.{Outcome, refusedWith, executePaper}
+use Rattle.machine.specs.Execute.{refusedWith, executePaper}
+use Rattle.machine.specs.Run.{Report, Run, Call, runOf}
 
--- ---- a run of words
+-- ---- there and back
 
--- three numbers for each word: refusal or 0, toggled, written
-abbrev pub Report : Type 0
-Report = ℕ × ℕ × ℕ
-
-abbrev pub reportOf : Outcome → Report
-reportOf o = (o .number, o .toggled, o .written)
-
--- what a run leaves: Z, ZA, and a report for each word
-pub record Run : Type 0 where
-  pub z : List ℕ
-  pub za : List ℕ
-  pub reports : List Report
-
--- what is done with a word, given Z and ZA
-abbrev pub Call : Type 0
-Call = ℕ → List ℕ → List ℕ → Outcome
-
-abbrev pub reportFirst : Outcome → Run → Run
-reportFirst o r = record { z = r .z; za = r .za; reports = reportOf o ∷ r .reports }
-
--- the words in their order: each finds Z and ZA as the one before left them
-unfoldable pub runOf : Call → List ℕ → List ℕ → List ℕ → Run
-runOf call [] z za = record { z = z; za = za; reports = [] }
-runOf call (w ∷ ws) z za = reportFirst (call w z za) (runOf call ws (call w z za .z) (call w z za .za))
-
--- the run itself, and what it leaves
+-- the words, executed in their order
 abbrev pub there : Settings → List ℕ → List ℕ → List ℕ → Run
 there s ws z za = runOf (executePaper s) ws z za
 
@@ -56,7 +32,7 @@ back s ws z za = runOf (undoPaper s) (reverse ws) (there s ws z za .z) (there s 
 
 -- ---- what is asked of the words
 
--- "each accepted for execution in its turn". So the settings are valid and Z and ZA have the right lengths, unless there is no word at all
+-- "each accepted for execution in its turn". Where there is a word, this says that the settings are valid, and Z and ZA of the right lengths
 abbrev pub AcceptedInTurn : Call → List ℕ → List ℕ → List ℕ → Type 0
 AcceptedInTurn call [] z za = Unit {0}
 AcceptedInTurn call (w ∷ ws) z za = (call w z za .number ≡ 0) × AcceptedInTurn call ws (call w z za .z) (call w z za .za)
@@ -87,10 +63,11 @@ NotItsOwnSource s w = (f : Fields) → decodePaper s w ≡ (0, f) → SourcesApa
 abbrev pub acceptedWith : Report → Report
 acceptedWith r = (0, r .1, r .2)
 
--- Z and ZA are what they were at the start, and the partners are accepted and report what their words reported
+-- Z and ZA are what they were at the start; the partners are accepted, and report the counts of their words
 abbrev pub Closes : Settings → List ℕ → List ℕ → List ℕ → Type 0
 Closes s ws z za = back s ws z za ≡ record { z = z; za = za; reports = reverse (map acceptedWith (there s ws z za .reports)) }
 
+-- Z and ZA hold bytes, as whatever is lent to `execute` does
 abbrev pub SweepCloses : Type 0
 SweepCloses =
     (s : Settings) (ws z za : List ℕ) → Bytes z → Bytes za

@@ -1,0 +1,29 @@
+-- A run of words: each is done in its turn, and has a report.
+use Prim.Native.Nat.{ℕ}
+use mathlib.Core.List.{List, [], _∷_}
+use Rattle.machine.specs.Execute.{Outcome}
+
+-- three numbers for each word: refusal or 0, toggled, written
+abbrev pub Report : Type 0
+Report = ℕ × ℕ × ℕ
+
+abbrev pub reportOf : Outcome → Report
+reportOf o = (o .number, o .toggled, o .written)
+
+-- what a run leaves: Z, ZA, and a report for each word
+pub record Run : Type 0 where
+  pub z : List ℕ
+  pub za : List ℕ
+  pub reports : List Report
+
+-- what is done with a word, given Z and ZA
+abbrev pub Call : Type 0
+Call = ℕ → List ℕ → List ℕ → Outcome
+
+abbrev pub reportFirst : Outcome → Run → Run
+reportFirst o r = record { z = r .z; za = r .za; reports = reportOf o ∷ r .reports }
+
+-- the words in their order: each finds Z and ZA as the one before left them
+unfoldable pub runOf : Call → List ℕ → List ℕ → List ℕ → Run
+runOf call [] z za = record { z = z; za = za; reports = [] }
+runOf call (w ∷ ws) z za = reportFirst (call w z za) (runOf call ws (call w z za .z) (call w z za .za))
