@@ -13,5 +13,5 @@ pub mod Theorems
 pub mod Answers
 pub mod Undoing
 pub mod Sweep
-pub mod Needed
+pub mod SweepExamples
 pub mod Calls

@@ -4,6 +4,6 @@ pub mod Execute
 pub mod Theorems
 pub mod Run
 pub mod Sweep
-pub mod Needed
+pub mod SweepExamples
 pub mod Calls
 pub mod Loop

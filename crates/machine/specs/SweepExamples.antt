@@ -1,4 +1,4 @@
--- Each premise of demand 3 is needed: words that fail one premise each, what the definitions make of them, and that their sweeps do not close.
+-- Demand 3 on numbers: a sweep that closes, and for each premise words that fail it and whose sweep does not close. So each premise is needed.
 use Prim.Native.Nat.{ℕ}
 use mathlib.Core.Path.{_≡_, refl}
 use mathlib.Core.List.{List, [], _∷_, map}
@@ -15,22 +15,19 @@ use Rattle.recipes.specs.Element.{newElement, newBytes}
 use Rattle.machine.specs.Step.{register, newRegister, zAfter, stride, selected, firstVector, writesVector, newVector, zaAfter}
 use Rattle.machine.specs.Execute.{stepped, executeFields, executePaper}
 use Rattle.machine.specs.Run.{Report, runOf}
-use Rattle.machine.specs.Sweep.{there, undoPaper, back, AcceptedInTurn, NotSaturating, NotItsOwnSource, Closes}
+use Rattle.machine.specs.Sweep.{there, undoPaper, back, AcceptedInTurn, EveryWord, NotSaturating, NotItsOwnSource, Closes}
 
--- ---- sweeps of one word, at VL 128
+-- ---- sweeps, at VL 128
 
 pub record Given : Type 0 where
   pub features : ℕ
   pub modes : ℕ
-  pub word : ℕ
+  pub words : List ℕ
   -- every 16 bits of Z; ZA is all zeros
   pub each : ℕ
 
 abbrev pub settings : Given → Settings
 settings g = record { vl = 128; features = record { 0 = g .features }; modes = record { 0 = g .modes }; select = 0 ∷ 0 ∷ 0 ∷ 0 ∷ [] }
-
-abbrev pub words : Given → List ℕ
-words g = g .word ∷ []
 
 abbrev pub startZ : Given → List ℕ
 startZ g = vector (λ e. g .each) 2 256
@@ -41,47 +38,50 @@ startZa = vector (λ e. 0) 2 128
 -- ---- what comes of them
 
 pub record Answer : Type 0 where
-  -- the first element of a register: at the start, after the word, and after the way back
+  -- the first element of a register: at the start, after the words, and after the way back
   pub start : ℕ
   pub after : ℕ
   pub returned : ℕ
-  -- what the word reports, and what the way back reports
+  -- what the words report, and what the way back reports
   pub forward : List Report
   pub backward : List Report
 
 -- of elements of so many bytes, in a register
 unfoldable pub answerOf : ℕ → ℕ → Given → Answer
 answerOf bytes r g =
-    let z : List ℕ = startZ g in
     record {
-      start = element bytes (register (settings g) z r) 0;
-      after = element bytes (register (settings g) (there (settings g) (words g) z startZa .z) r) 0;
-      returned = element bytes (register (settings g) (back (settings g) (words g) z startZa .z) r) 0;
-      forward = there (settings g) (words g) z startZa .reports;
-      backward = back (settings g) (words g) z startZa .reports;
+      start = element bytes (register (settings g) (startZ g) r) 0;
+      after = element bytes (register (settings g) (there (settings g) (g .words) (startZ g) startZa .z) r) 0;
+      returned = element bytes (register (settings g) (back (settings g) (g .words) (startZ g) startZa .z) r) 0;
+      forward = there (settings g) (g .words) (startZ g) startZa .reports;
+      backward = back (settings g) (g .words) (startZ g) startZa .reports;
     }
 
--- ---- the words
+-- ---- the sweeps
+
+-- the destination of the first word, 0, is a source of the second, so the way back must begin with the second
+abbrev pub closing : Given
+closing = record { features = 1; modes = 0; words = 0x0E228020 ∷ 0x0E208023 ∷ []; each = 0x0101 }
 
 -- the destination, 1, is the first source: the partner finds a source that the word has changed
 abbrev pub ownFirst : Given
-ownFirst = record { features = 1; modes = 0; word = 0x0E228021; each = 0x0101 }
+ownFirst = record { features = 1; modes = 0; words = 0x0E228021 ∷ []; each = 0x0101 }
 
 -- the destination, 2, is the second source
 abbrev pub ownSecond : Given
-ownSecond = record { features = 1; modes = 0; word = 0x0E228022; each = 0x0101 }
+ownSecond = record { features = 1; modes = 0; words = 0x0E228022 ∷ []; each = 0x0101 }
 
--- C: -32768 squared and doubled is clamped, and so is the difference
+-- C: −32768 squared and doubled is clamped, and so is the difference
 abbrev pub saturates : Given
-saturates = record { features = 2; modes = 0; word = 0x44BA3820; each = 0x8000 }
+saturates = record { features = 2; modes = 0; words = 0x44BA3820 ∷ []; each = 0x8000 }
 
 -- AdvSIMD is missing
 abbrev pub unknown : Given
-unknown = record { features = 2; modes = 0; word = 0x0E228020; each = 0x0101 }
+unknown = record { features = 2; modes = 0; words = 0x0E228020 ∷ []; each = 0x0101 }
 
 -- SM is on
 abbrev pub wrongMode : Given
-wrongMode = record { features = 5; modes = 1; word = 0x0E228020; each = 0x0101 }
+wrongMode = record { features = 5; modes = 1; words = 0x0E228020 ∷ []; each = 0x0101 }
 
 pub record Line : Type 0 where
   pub bytes : ℕ
@@ -89,24 +89,25 @@ pub record Line : Type 0 where
   pub given : Given
   pub answer : Answer
 
-abbrev pub line : ℕ → ℕ → Given → ℕ → ℕ → ℕ → Report → Report → Line
+abbrev pub line : ℕ → ℕ → Given → ℕ → ℕ → ℕ → List Report → List Report → Line
 line bytes register given start after returned forward backward =
     record {
       bytes = bytes;
       register = register;
       given = given;
-      answer = record { start = start; after = after; returned = returned; forward = forward ∷ []; backward = backward ∷ [] };
+      answer = record { start = start; after = after; returned = returned; forward = forward; backward = backward };
     }
 
 abbrev pub table : List Line
 table =
-    line 2 1 ownFirst 0x0101 0x0102 0x0100 (0, 16, 128) (0, 12, 128)
-    ∷ line 2 2 ownSecond 0x0101 0x0102 0x0100 (0, 16, 128) (0, 12, 128)
+    line 2 3 closing 0x0101 0x0103 0x0101 ((0, 16, 128) ∷ (0, 12, 128) ∷ []) ((0, 12, 128) ∷ (0, 16, 128) ∷ [])
+    ∷ line 2 1 ownFirst 0x0101 0x0102 0x0100 ((0, 16, 128) ∷ []) ((0, 12, 128) ∷ [])
+    ∷ line 2 2 ownSecond 0x0101 0x0102 0x0100 ((0, 16, 128) ∷ []) ((0, 12, 128) ∷ [])
     -- `partner` refuses it. By hand it does not come back either: see `flipped`
-    ∷ line 4 0 saturates 0x80008000 0x80000000 0x80000000 (0, 4, 128) (6, 0, 0)
-    -- nothing changes, but the partner is not accepted: `partner` refuses the one, `execute` the other's partner
-    ∷ line 2 0 unknown 0x0101 0x0101 0x0101 (3, 0, 0) (3, 0, 0)
-    ∷ line 2 0 wrongMode 0x0101 0x0101 0x0101 (4, 0, 0) (4, 0, 0)
+    ∷ line 4 0 saturates 0x80008000 0x80000000 0x80000000 ((0, 4, 128) ∷ []) ((6, 0, 0) ∷ [])
+    -- nothing changes, but the partners are not accepted: `partner` refuses the one, and `execute` the partner of the other
+    ∷ line 2 0 unknown 0x0101 0x0101 0x0101 ((3, 0, 0) ∷ []) ((3, 0, 0) ∷ [])
+    ∷ line 2 0 wrongMode 0x0101 0x0101 0x0101 ((4, 0, 0) ∷ []) ((4, 0, 0) ∷ [])
     ∷ []
 
 -- the definitions answer each line as the table does
@@ -117,30 +118,37 @@ unfolding answerOf decodePaper decodeEnabled describe enables validSettings vect
     runOf undoPaper partnerWord partnerPaper
 answers-hold = refl
 
--- 44BA2820 is 44BA3820 with S flipped
+-- register 0 after 44BA2820, which is 44BA3820 with S flipped, is executed where the words led
 unfoldable pub flipped : Given → ℕ
-flipped g = element 4 (executePaper (settings g) 0x44BA2820 (there (settings g) (words g) (startZ g) startZa .z) startZa .z) 0
+flipped g = element 4 (executePaper (settings g) 0x44BA2820 (there (settings g) (g .words) (startZ g) startZa .z) startZa .z) 0
 
+-- it was 80008000
 pub flipped-is : flipped saturates ≡ 0xFFFFFFFF
 unfolding flipped decodePaper decodeEnabled describe enables validSettings vectorBytes arrayBytes
     elementAt lowBytes vector vectorAt laid renewed SInt Int low product accumulate laneStep clamp SignedSat satStep step overBits overBytes
     newElement newBytes newRegister zAfter stride selected firstVector writesVector newVector zaAfter stepped executeFields executePaper runOf
 flipped-is = refl
 
--- ---- none of their sweeps closes, though each meets the other premises (proofs/Needed.antt)
+-- ---- none but the first closes, though each meets the other premises (proofs/SweepExamples.antt)
 
 pub record Open (g : Given) (Meets : Type 0) : Type 0 where
   pub z-bytes : Bytes (startZ g)
   pub za-bytes : Bytes startZa
   pub meets : Meets
-  pub not-closed : Closes (settings g) (words g) (startZ g) startZa → ⊥
+  pub not-closed : Closes (settings g) (g .words) (startZ g) startZa → ⊥
 
-abbrev pub IsAccepted : Given → Type 0
-IsAccepted g = AcceptedInTurn (executePaper (settings g)) (words g) (startZ g) startZa
+abbrev pub Accepted : Given → Type 0
+Accepted g = AcceptedInTurn (executePaper (settings g)) (g .words) (startZ g) startZa
+
+abbrev pub Wrapping : Given → Type 0
+Wrapping g = EveryWord (NotSaturating (settings g)) (g .words)
+
+abbrev pub Apart : Given → Type 0
+Apart g = EveryWord (NotItsOwnSource (settings g)) (g .words)
 
 pub record EachNeeded : Type 0 where
-  pub own-first : Open ownFirst (IsAccepted ownFirst × NotSaturating (settings ownFirst) (ownFirst .word))
-  pub own-second : Open ownSecond (IsAccepted ownSecond × NotSaturating (settings ownSecond) (ownSecond .word))
-  pub saturating : Open saturates (IsAccepted saturates × NotItsOwnSource (settings saturates) (saturates .word))
-  pub not-known : Open unknown (NotSaturating (settings unknown) (unknown .word) × NotItsOwnSource (settings unknown) (unknown .word))
-  pub not-permitted : Open wrongMode (NotSaturating (settings wrongMode) (wrongMode .word) × NotItsOwnSource (settings wrongMode) (wrongMode .word))
+  pub apart-first : Open ownFirst (Accepted ownFirst × Wrapping ownFirst)
+  pub apart-second : Open ownSecond (Accepted ownSecond × Wrapping ownSecond)
+  pub wrapping : Open saturates (Accepted saturates × Apart saturates)
+  pub accepted-3 : Open unknown (Wrapping unknown × Apart unknown)
+  pub accepted-4 : Open wrongMode (Wrapping wrongMode × Apart wrongMode)

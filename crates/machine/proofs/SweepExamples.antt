@@ -1,0 +1,110 @@
+-- The sweeps of specs/SweepExamples.antt that fail a premise do not close, though each meets the others. Assumes nothing.
+use Prim.Native.Nat.{ℕ, zero, suc}
+use native.Mathlib.Omega.{arith}
+use mathlib.Core.Path.{_≡_, refl, sym, ap, _∙_, subst}
+use mathlib.Core.Logic.{_≢_}
+use mathlib.Core.Bool.{false}
+use mathlib.Core.List.{List, [], _∷_, map, reverse}
+use Rattle.laws.proofs.Tests.{never-both}
+use Rattle.settings.specs.Valid.{validSettings, vectorBytes, arrayBytes}
+use Rattle.words.specs.Says.{describe}
+use Rattle.words.specs.Decode.{enables, decodeEnabled, decodePaper}
+use Rattle.words.specs.Partner.{isC}
+use Rattle.words.specs.declared.Family.{Family}
+use Rattle.words.specs.declared.Family.the-variants.{Saturating}
+use Rattle.words.specs.declared.Fields.{Fields}
+use Rattle.elements.specs.Elements.{lowBytes, vector, element}
+use Rattle.elements.proofs.Vectors.{Bytes-vector}
+use Rattle.machine.specs.Step.{register}
+use Rattle.machine.specs.Execute.{stepped, executeFields, executePaper}
+use Rattle.machine.specs.Run.{Report, Run}
+use Rattle.machine.specs.Sweep.{SourcesApart, acceptedWith, Closes}
+use Rattle.machine.specs.SweepExamples.{Given, settings, startZ, startZa, Answer, answerOf, ownFirst, ownSecond, saturates, unknown, wrongMode, answers-hold, Open, EachNeeded}
+
+first-number : List Report → ℕ
+first-number [] = 0
+first-number (r ∷ rs) = r .0
+
+-- the sweep that is shown not to close
+abbrev Shut : Given → Type 0
+Shut g = Closes (settings g) (g .words) (startZ g) startZa
+
+-- ---- answers that rule it out
+
+module _ (bytes r : ℕ) (g : Given) (x : Answer) (is : answerOf bytes r g ≡ x) where
+  -- an element did not come back
+  moved : x .returned ≢ x .start → Shut g → ⊥
+  unfolding answerOf
+  moved h e =
+      h (sym (ap (λ (a : Answer). a .returned) is)
+      ∙ ap (λ (y : Run). element bytes (register (settings g) (y .z) r) 0) e
+      ∙ ap (λ (a : Answer). a .start) is)
+
+  -- the first partner was not accepted
+  refused : first-number (x .backward) ≢ first-number (reverse (map acceptedWith (x .forward))) → Shut g → ⊥
+  unfolding answerOf
+  refused h e =
+      h (sym (ap (λ (a : Answer). first-number (a .backward)) is)
+      ∙ ap (λ (y : Run). first-number (y .reports)) e
+      ∙ ap (λ (a : Answer). first-number (reverse (map acceptedWith (a .forward)))) is)
+
+-- ---- the lines of the table
+
+nth : ℕ → List Answer → Answer
+nth n [] = record { start = 0; after = 0; returned = 0; forward = []; backward = [] }
+nth zero (a ∷ rest) = a
+nth (suc n) (a ∷ rest) = nth n rest
+
+-- what holds of a word's fields
+by-fields : (d : ℕ × Fields) (P : Fields → Type 0) → P (d .1) → (f : Fields) → d ≡ (0, f) → P f
+by-fields d P p f e = subst P (ap (λ (x : ℕ × Fields). x .1) e) p
+
+-- and of a word that has none
+no-fields : (d : ℕ × Fields) (P : Fields → Type 0) → d .0 ≢ 0 → (f : Fields) → d ≡ (0, f) → P f
+no-fields d P n f e = absurd (n (ap (λ (x : ℕ × Fields). x .0) e))
+
+-- a family that is not C
+other : (family : Family) → isC family ≡ false → family ≢ Saturating
+other family n e = never-both (isC family) (ap isC e) n
+
+stays-open : (g : Given) (Meets : Type 0) → Meets → (Shut g → ⊥) → Open g Meets
+stays-open g Meets m n =
+    record { z-bytes = Bytes-vector (λ e. g .each) 2 256; za-bytes = Bytes-vector (λ e. 0) 2 128; meets = m; not-closed = n }
+
+-- what a word decodes to
+abbrev decoded : Given → ℕ → ℕ × Fields
+decoded g w = decodePaper (settings g) w
+
+abbrev Wraps : Fields → Type 0
+Wraps f = f .family ≢ Saturating
+
+abbrev Sources : Fields → Type 0
+Sources f = SourcesApart (f .family) f
+
+pub each-needed : EachNeeded
+unfolding nth first-number decodePaper decodeEnabled describe enables validSettings vectorBytes arrayBytes executePaper executeFields stepped vector
+    lowBytes
+each-needed =
+    record {
+      apart-first =
+          stays-open ownFirst _ ((refl, tt), (by-fields (decoded ownFirst 0x0E228021) Wraps (other _ refl), tt))
+          (moved 2 1 ownFirst _ (ap (nth 1) answers-hold) (λ (e : _≡_ {A = ℕ} 0x0100 0x0101). omega arith));
+      apart-second =
+          stays-open ownSecond _ ((refl, tt), (by-fields (decoded ownSecond 0x0E228022) Wraps (other _ refl), tt))
+          (moved 2 2 ownSecond _ (ap (nth 2) answers-hold) (λ (e : _≡_ {A = ℕ} 0x0100 0x0101). omega arith));
+      wrapping =
+          stays-open saturates _ ((refl, tt), (by-fields (decoded saturates 0x44BA3820) Sources tt, tt))
+          (refused 4 0 saturates _ (ap (nth 3) answers-hold) (λ (e : _≡_ {A = ℕ} 6 0). omega arith));
+      accepted-3 =
+          stays-open unknown _ (
+            (no-fields (decoded unknown 0x0E228020) Wraps (λ (e : _≡_ {A = ℕ} 3 0). omega arith), tt),
+            (no-fields (decoded unknown 0x0E228020) Sources (λ (e : _≡_ {A = ℕ} 3 0). omega arith), tt),
+          )
+          (refused 2 0 unknown _ (ap (nth 4) answers-hold) (λ (e : _≡_ {A = ℕ} 3 0). omega arith));
+      accepted-4 =
+          stays-open wrongMode _ (
+            (by-fields (decoded wrongMode 0x0E228020) Wraps (other _ refl), tt),
+            (by-fields (decoded wrongMode 0x0E228020) Sources ((λ (e : _≡_ {A = ℕ} 0 1). omega arith), (λ (e : _≡_ {A = ℕ} 0 2). omega arith)), tt),
+          )
+          (refused 2 0 wrongMode _ (ap (nth 5) answers-hold) (λ (e : _≡_ {A = ℕ} 4 0). omega arith));
+    }
