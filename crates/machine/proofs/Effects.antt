@@ -147,17 +147,18 @@ module _ (s : Settings) (v : VectorLength (arrayBytes s)) (f : Fields) (g : Rang
       (bytes-replaced-le differ differ-unmoved at-za new-za (arrayBytes s) (arrayBytes s) za differ-once (f .group * k)
       (placed s v f g into z za long) (place-distinct (grid s v f g into)))
 
-  each : (u : ℕ) → u < arrayBytes s
+  -- vector by vector
+  pub each-za : (u : ℕ) → u < arrayBytes s
       → zaVector s (zaAfter s f z za) u
       ≡ cond (writesVector s f u) (newVector s f z (u / stride s f) (u % stride s f - firstVector s f) (zaVector s za u)) (zaVector s za u)
   unfolding zaAfter newVector
-  each u h =
+  each-za u h =
       vectorAt-renewed (writesVector s f) (λ u. newVector s f z (u / stride s f) (u % stride s f - firstVector s f) (zaVector s za u))
       (arrayBytes s) (arrayBytes s) za long
       (λ u q e. length-newBytes _ (arrayBytes s) _ _ _ (omega (arith, v .whole))) u h
 
   pub za-elsewhere : (u : ℕ) → u < arrayBytes s → (Among (perSource (f .family)) s f u → ⊥) → zaVector s (zaAfter s f z za) u ≡ zaVector s za u
-  za-elsewhere u h out = each u h ∙ rw (failed (writesVector s f u) (λ e. out (among s v f g into u h e)))
+  za-elsewhere u h out = each-za u h ∙ rw (failed (writesVector s f u) (λ e. out (among s v f g into u h e)))
 
   pub za-vector : (r i : ℕ) → r < f .group → i < perSource (f .family)
       → zaVector s (zaAfter s f z za) (firstVector s f + r * stride s f + i)
@@ -166,7 +167,7 @@ module _ (s : Settings) (v : VectorLength (arrayBytes s)) (f : Fields) (g : Rang
       let u : ℕ = firstVector s f + r * stride s f + i in
       let a : u / stride s f ≡ r = row-of (grid s v f g into) r i hi in
       let b : u % stride s f - firstVector s f ≡ i = omega (arith, within-row (grid s v f g into) r i hi) in
-      each u (row-lt (grid s v f g into) r i hr hi) ∙ rw (named s v f g into r i hi, a, b)
+      each-za u (row-lt (grid s v f g into) r i hr hi) ∙ rw (named s v f g into r i hi, a, b)
 
   pub za-element : (r i lane wide : ℕ) → r < f .group → i < perSource (f .family) → InBits (recipeOf (f .family) f i) lane wide
       → (e : ℕ) → e < 8 * arrayBytes s / wide

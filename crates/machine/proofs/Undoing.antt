@@ -19,7 +19,7 @@ use Rattle.words.specs.declared.Family.the-variants.{ByElement, Vector, Saturat
 use Rattle.words.specs.declared.Fields.{Fields}
 use Rattle.elements.specs.Files.{vectorAt}
 use Rattle.elements.proofs.Elements.{Bytes}
-use Rattle.elements.proofs.Files.{room, length-vectorAt, Bytes-vectorAt, vectorAt-renewed, renewed-undone}
+use Rattle.elements.proofs.Files.{room, length-vectorAt, Bytes-vectorAt, renewed-undone}
 use Rattle.bits.proofs.Bits.{toggled-comm}
 use Rattle.recipes.specs.Recipe.{recipeOf, newLength, perSource}
 use Rattle.recipes.proofs.Built.{length-newBytes}
@@ -32,7 +32,7 @@ use Rattle.machine.specs.Loop.{IntoZa}
 use Rattle.machine.proofs.Stepping.{IntoZ, which-file, steppedZ, steppedZa, stepped-z, stepped-za}
 use Rattle.machine.proofs.Outcomes.{accepted-ranges}
 use Rattle.machine.proofs.Registers.{new-length, long-register}
-use Rattle.machine.proofs.Effects.{z-new, z-same}
+use Rattle.machine.proofs.Effects.{z-new, z-same, each-za}
 
 -- ---- A and B: into Z
 
@@ -66,8 +66,8 @@ module _ (s : Settings) (v : VectorLength (vectorBytes s)) (f : Fields) (g : Ran
 
 -- ---- D and E: into ZA
 
-module _ (s : Settings) (v : VectorLength (arrayBytes s)) (f : Fields) (z za : List ℕ) (long : length za ≡ arrayBytes s * arrayBytes s) (b : Bytes za)
-    (wraps : (i : ℕ) → recipeOf (f .family) f i .saturating ≡ false) where
+module _ (s : Settings) (v : VectorLength (arrayBytes s)) (f : Fields) (g : Ranges f) (into : IntoZa f) (z za : List ℕ)
+    (long : length za ≡ arrayBytes s * arrayBytes s) (b : Bytes za) (wraps : (i : ℕ) → recipeOf (f .family) f i .saturating ≡ false) where
   abbrev w-za : ℕ
   w-za = arrayBytes s
 
@@ -80,12 +80,11 @@ module _ (s : Settings) (v : VectorLength (arrayBytes s)) (f : Fields) (z za : L
   wide u = length-newBytes _ w-za _ _ _ (omega (arith, v .whole))
 
   vector-back : (u : ℕ) → u < arrayBytes s → writesVector s f u ≡ true → new (turned f) (zaAfter s f z za) u ≡ vectorAt w-za u za
-  unfolding newVector zaAfter turned
+  unfolding newVector turned
   vector-back u h e =
       let i : ℕ = u % stride s f - firstVector s f in
       let old-long : length (vectorAt w-za u za) ≡ w-za = length-vectorAt w-za u za (room u w-za w-za za long h) in
-      let now : vectorAt w-za u (zaAfter s f z za) ≡ new f za u =
-      vectorAt-renewed (writesVector s f) (new f za) w-za w-za za long (λ u h e. wide u) u h ∙ rw e in
+      let now : vectorAt w-za u (zaAfter s f z za) ≡ new f za u = each-za s v f g into z za long u h ∙ rw e in
       undo-whole (recipeOf (f .family) f i) (recipeOf (f .family) (turned f) i) w-za (vectorAt w-za u za)
       (register s z (f .first + u / stride s f)) (register s z (f .second + u / stride s f)) (vectorAt w-za u (zaAfter s f z za))
       (recipe-turned (f .family) f i) (wraps i) (omega (arith, v .whole)) (Bytes-vectorAt w-za u za b) old-long now
@@ -151,7 +150,7 @@ module _ (s : Settings) (w : ℕ) (f : Fields) (z za : List ℕ) (a : Accepted s
   into-za i =
       let n : ℕ = 8 * vectorBytes s * f .group * perSource (f .family) in
       let same : zaAfter s (turned f) z (zaAfter s f z za) ≡ za =
-      za-back s (array-length s (a .valid)) f z za (a .za-exact) bza (λ i. wrapping (f .family) f i not-c) in
+      za-back s (array-length s (a .valid)) f g i z za (a .za-exact) bza (λ i. wrapping (f .family) f i not-c) in
       stepped-za s (turned f) z (zaAfter s f z za) i
       ∙ ap (λ (x : List ℕ). counted n z (zaAfter s f z za) z x) same
       ∙ counted-back n z za z (zaAfter s f z za)
