@@ -1,54 +1,10 @@
 /* The stored cases: single executions with the answers that this program gives, one to a line, for another program to
  * be held to. README.md says what the columns are and how contents are made from a kind and a seed. */
 #include "commands.h"
-#include "second.h"
+#include "stored.h"
 
-#include <stdlib.h>
-#include <string.h>
-
-enum { Z_ROOM = 2049, ZA_ROOM = 4097, FILL_RANDOM = 0, FILL_MIXED = 9, FILL_KINDS = 10 };
-
-/* Contents */
-
-static uint32_t next_state(uint32_t x)
-{
-    return x * 1664525 + 1013904223;
-}
-
-static uint8_t extreme_byte(uint32_t kind, size_t place)
-{
-    switch (kind) {
-    case 1:
-        return 0xFF;
-    case 2:
-        return 0x80;
-    case 3:
-        return 0x7F;
-    case 5:
-        return place % 2 == 1 ? 0x80 : 0;
-    case 6:
-        return place % 4 == 3 ? 0x80 : 0;
-    case 7:
-        return place % 2 == 1 ? 0x7F : 0xFF;
-    case 8:
-        return place % 4 == 3 ? 0x7F : 0xFF;
-    default:
-        return 0;
-    }
-}
-
-static void fill(uint8_t *bytes, size_t length, uint32_t kind, uint32_t seed)
-{
-    uint32_t x = seed;
-    for (size_t i = 0; i < length; i++) {
-        if (kind == FILL_RANDOM || i % 4 == 0)
-            x = next_state(x);
-        if (kind == FILL_RANDOM)
-            bytes[i] = (uint8_t)(x >> 24);
-        else
-            bytes[i] = extreme_byte(kind == FILL_MIXED ? 1 + (x >> 24) % 8 : kind, i);
-    }
-}
+/* One byte more than any Z and ZA, for the lengths that are too long. */
+enum { Z_ROOM = SECOND_MOST_Z + 1, ZA_ROOM = SECOND_MOST_ZA + 1 };
 
 static uint32_t checksum(const uint8_t *bytes, size_t length)
 {
@@ -72,23 +28,6 @@ struct one_case {
 
 static FILE *lines;
 
-/* Chooses what no list below goes through; apart from the contents' generator, so that the two do not run in step. */
-static uint32_t chooser;
-
-static uint32_t choose(uint32_t below)
-{
-    chooser ^= chooser << 13;
-    chooser ^= chooser >> 17;
-    chooser ^= chooser << 5;
-    return chooser % below;
-}
-
-static uint32_t choose_any(void)
-{
-    uint32_t high = choose(65536);
-    return high << 16 | choose(65536);
-}
-
 static void print_case(const struct one_case *c)
 {
     static uint8_t z[Z_ROOM], za[ZA_ROOM];
@@ -100,9 +39,7 @@ static void print_case(const struct one_case *c)
                                 c->word, c->z.kind, c->z.seed, c->z.length, c->za.kind, c->za.seed, c->za.length,
                                 (uint32_t)refusal, toggled, written, checksum(z, c->z.length),
                                 checksum(za, c->za.length)};
-    size_t count = sizeof columns / sizeof *columns;
-    for (size_t i = 0; i < count; i++)
-        fprintf(lines, "%08X%c", (unsigned)columns[i], i + 1 < count ? ' ' : '\n');
+    print_columns(lines, columns, sizeof columns / sizeof *columns);
 }
 
 /* Lengths of the VL, random contents and select registers. */
@@ -116,57 +53,12 @@ static struct one_case common_case(uint32_t vl, uint32_t features, uint32_t mode
     return c;
 }
 
-static const uint32_t vls[] = {128, 256, 512};
-
-/* The word of fields that are known to have one. */
-static uint32_t word_of(const struct second_fields *f)
-{
-    static const struct second_settings all = {.vl = 128, .features = 31};
-    uint32_t word;
-    if (second_encode(&all, f, &word) != SECOND_ACCEPTED)
-        abort();
-    return word;
-}
-
-/* Settings under which the family runs, not always the same ones. */
+/* Settings under which the fields' word runs. */
 static struct one_case permitted(uint32_t vl, const struct second_fields *f)
 {
-    static const uint32_t ab[][2] = {{1, 0}, {3, 0}, {5, 2}, {31, 2}, {13, 0}};
-    static const uint32_t c[][2] = {{2, 0}, {4, 1}, {6, 0}, {6, 3}, {12, 3}, {31, 2}};
-    static const uint32_t d[][2] = {{12, 3}, {13, 3}, {14, 3}, {31, 3}};
-    static const uint32_t d_wide[][2] = {{28, 3}, {29, 3}, {30, 3}, {31, 3}};
-    const uint32_t *pick;
-    if (f->family <= SECOND_FAMILY_B)
-        pick = ab[choose(5)];
-    else if (f->family == SECOND_FAMILY_C)
-        pick = c[choose(6)];
-    else if (f->family == SECOND_FAMILY_D && f->lane == 16)
-        pick = d_wide[choose(4)];
-    else
-        pick = d[choose(4)];
-    return common_case(vl, pick[0], pick[1], word_of(f));
-}
-
-/* Registers that the family can name; `second` has fewer bits in A and C. */
-static uint32_t second_below(const struct second_fields *f)
-{
-    if (f->family == SECOND_FAMILY_A)
-        return f->lane == 16 ? 16 : 32;
-    if (f->family == SECOND_FAMILY_C)
-        return f->lane == 16 ? 8 : 16;
-    return 32;
-}
-
-static void choose_registers(struct second_fields *f)
-{
-    if (f->family >= SECOND_FAMILY_D) {
-        f->first = choose(32 / f->group) * f->group;
-        f->second = choose(32 / f->group) * f->group;
-        return;
-    }
-    f->destination = choose(32);
-    f->first = choose(32);
-    f->second = choose(second_below(f));
+    struct second_settings s;
+    choose_permitting(f, &s);
+    return common_case(vl, s.features, s.modes, word_of(f));
 }
 
 /* A list of all fields but the registers, in a fixed order: fields number `at` of a family, or family 0 at its end. */
@@ -237,21 +129,6 @@ static uint32_t lanes_of(uint32_t family, struct second_fields *variants)
             variants[count++] = f;
     }
     return count;
-}
-
-static void choose_rest(struct second_fields *f)
-{
-    f->subtract = choose(2);
-    if (f->family <= SECOND_FAMILY_C)
-        f->part = choose(2);
-    if (f->family == SECOND_FAMILY_A || f->family == SECOND_FAMILY_C)
-        f->index = choose(f->lane == 16 ? 8 : 4);
-    if (f->family >= SECOND_FAMILY_D) {
-        f->group = choose(2) == 0 ? 2 : 4;
-        f->select = 8 + choose(4);
-        f->offset = f->family == SECOND_FAMILY_D ? 4 * choose(2) : 2 * choose(4);
-    }
-    choose_registers(f);
 }
 
 /* Each kind of extreme contents, added and subtracted. */
@@ -423,7 +300,7 @@ static void modes_tried(void)
 int cases_command(FILE *out)
 {
     lines = out;
-    chooser = 20010831;
+    start_choosing(20010831);
     all_fields(SECOND_FAMILY_A, 1);
     all_fields(SECOND_FAMILY_B, 3);
     all_fields(SECOND_FAMILY_C, 3);

@@ -8,6 +8,7 @@
 
 int selftest_command(void);
 int cases_command(FILE *out);
+int sweeps_command(FILE *out);
 
 /* Runs a list and prints what the list program prints of it. */
 void print_run(FILE *out, const uint8_t *list, size_t list_len);

@@ -4,8 +4,6 @@
 #include <string.h>
 
 enum {
-    MOST_Z = 2048,
-    MOST_ZA = 4096,
     /* An accepted list has at most 7 numbers of 5 bytes, Z, a count of 2 bytes and 1,024 words of 5 bytes. What lies
      * past that is found to be extra at its first byte, so more of the input need not be kept. */
     MOST_LIST = 8192
@@ -36,7 +34,7 @@ static size_t words_place(const uint8_t *list, size_t list_len, uint32_t vl)
 
 void print_run(FILE *out, const uint8_t *list, size_t list_len)
 {
-    static uint8_t z[MOST_Z], za[MOST_ZA];
+    static uint8_t z[SECOND_MOST_Z], za[SECOND_MOST_ZA];
     static uint32_t report[3 * SECOND_MOST_WORDS];
     uint32_t vl = vl_of(list, list_len), count, toggled = 0, written = 0;
     size_t place;
@@ -82,10 +80,12 @@ int main(int argc, char **argv)
         code = selftest_command();
     else if (argc == 2 && strcmp(argv[1], "cases") == 0)
         code = cases_command(stdout);
+    else if (argc == 2 && strcmp(argv[1], "sweeps") == 0)
+        code = sweeps_command(stdout);
     else if (argc == 2 && strcmp(argv[1], "run") == 0)
         code = run_command();
     else
-        fprintf(stderr, "usage: second selftest | cases | run\n");
+        fprintf(stderr, "usage: second selftest | cases | sweeps | run\n");
     /* A full disk must not look like a good run. */
     if (fflush(stdout) != 0)
         return 1;

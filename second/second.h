@@ -59,7 +59,8 @@ struct second_fields {
     uint32_t offset;
 };
 
-/* The lengths in bytes that Z and ZA have at a valid VL. */
+/* The lengths in bytes that Z and ZA have at a valid VL, and those that no VL exceeds. */
+enum { SECOND_MOST_Z = 2048, SECOND_MOST_ZA = 4096 };
 size_t second_z_length(uint32_t vl);
 size_t second_za_length(uint32_t vl);
 

@@ -1,5 +1,7 @@
 #include "commands.h"
 #include "second.h"
+#include "stored.h"
+#include "sweeps.h"
 
 #include <stdlib.h>
 #include <string.h>
@@ -22,13 +24,13 @@ static struct bench {
     uint32_t toggled, written;
 } b;
 
-static void set_up(uint32_t features, uint32_t modes, uint8_t fill)
+static void set_up(uint32_t features, uint32_t modes, uint8_t byte)
 {
     memset(&b, 0, sizeof b);
     b.s.vl = 128;
     b.s.features = features;
     b.s.modes = modes;
-    memset(b.z, fill, sizeof b.z);
+    memset(b.z, byte, sizeof b.z);
 }
 
 static int step(uint32_t word)
@@ -400,7 +402,7 @@ static void encodes(void)
 /* Every word under the ten top bytes that the rows allow. The rows' free bits say how many there are: 2 sizes of 20
  * bits in A, 3 of 18 in B, 2 of 18 in C, and 14 and 12 bits each in D and in E. A slip in a mask would change the
  * number. */
-static void sweep(void)
+static void every_word(void)
 {
     static const uint32_t tops[] = {0x0E, 0x0F, 0x2E, 0x2F, 0x4E, 0x4F, 0x6E, 0x6F, 0x44, 0xC1};
     struct second_settings s = {.vl = 128, .features = 31};
@@ -418,6 +420,27 @@ static void sweep(void)
     check(back == accepted, "encode undoes decode for all of them");
 }
 
+/* Random words there and their partners back. The two that follow show that the check can fail: a word that names its
+ * destination as a source, which spoils the source for its partner, and a word of C, which has none. */
+static void round_trips(void)
+{
+    static struct swept swept;
+    start_choosing(20010902);
+    for (int mix = 0; mix < MIXES; mix++)
+        for (int v = 0; v < 3; v++) {
+            struct sweep w = choose_sweep(vls[v], (enum mix)mix, 100);
+            check(leads_back(&w, &swept), "there and back");
+        }
+    struct sweep w = choose_sweep(128, A_AND_B, 10);
+    w.words[4] = 0x0E218020;
+    check(leads_back(&w, &swept), "a word whose destination is no source");
+    w.words[4] = 0x0E208020;
+    check(!leads_back(&w, &swept), "a word whose destination is its second source");
+    w.s.features = 31;
+    w.words[4] = 0x44BA3820;
+    check(!leads_back(&w, &swept), "a word of C");
+}
+
 int selftest_command(void)
 {
     rows_of_ab();
@@ -431,7 +454,8 @@ int selftest_command(void)
     lengths_and_modes();
     partners();
     encodes();
-    sweep();
+    every_word();
+    round_trips();
     if (failures != 0) {
         printf("%u checks, %u failed\n", checks, failures);
         return 1;
