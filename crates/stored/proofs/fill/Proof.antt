@@ -1,10 +1,10 @@
--- `cases::fill` is safe and ends, and keeps the length of what it fills. The measure is what is left of the bytes. Assumes nothing.
+-- `stored::fill` is safe and ends, and keeps the length of what it fills. The measure is what is left of the bytes. Assumes nothing.
 use mathlib.Core.Path.{_≡_}
 use Prim.Native.Nat.{_≤_, _-_}
 use borrow.Author.Needs.{needs}
 use lib.ListN.{length}
-use Rattle.cases.proofs.fill.Statement.{statement}
-use Rattle.cases.proofs.fill.Tie as tie
+use Rattle.stored.proofs.fill.Statement.{statement}
+use Rattle.stored.proofs.fill.Tie as tie
 
 abbrev Inv-loop : tie.InvT-loop
 Inv-loop bytes₀ kind seed state₀ i₀ bytes state i = (i ≤ length bytes₀) × (length bytes ≡ length bytes₀)
