@@ -420,8 +420,8 @@ static void every_word(void)
     check(back == accepted, "encode undoes decode for all of them");
 }
 
-/* Random words there and their partners back. The two that follow show that the check can fail: a word that names its
- * destination as a source, which spoils the source for its partner, and a word of C, which has none. */
+/* Random words there and their partners back. The last two show that the check can fail: a word that names its
+ * destination as a source spoils the source for its partner, and a word of C has no partner. */
 static void round_trips(void)
 {
     static struct swept swept;

@@ -1,4 +1,4 @@
-/* See stored.h. */
+/* Columns, contents, and words by choice, for the stored cases and the stored sweeps. */
 #include "stored.h"
 
 #include <stdlib.h>

@@ -1,0 +1,109 @@
+-- `sweeps::check_list` is safe and ends, and keeps the lengths of the rooms. A turn passes at least one byte and counts one sweep, and no
+-- more words than it passes bytes, so no count exceeds the place in the list. The measure is what is left of the list. Assumes nothing.
+use mathlib.Core.Path.{_≡_}
+use Prim.Native.Nat.{_≤_, _-_}
+use borrow.Author.Needs.{needs}
+use lib.ListN.{length}
+use Rattle.sweeps.proofs.check_list.Statement.{statement}
+use Rattle.sweeps.proofs.check_list.Tie as tie
+
+abbrev Inv-loop : tie.InvT-loop
+Inv-loop list z-room₀ za-room₀ z-due-room₀ za-due-room₀ at₀ sweeps₀ words₀ wrong₀ z-room za-room z-due-room za-due-room at sweeps words wrong =
+    (at ≤ length list) × (sweeps ≤ at) × (words ≤ at) × (wrong ≤ sweeps)
+    × (length z-room ≡ length z-room₀) × (length za-room ≡ length za-room₀)
+    × (length z-due-room ≡ length z-due-room₀) × (length za-due-room ≡ length za-due-room₀)
+
+abbrev μ-loop : tie.MeasureT-loop
+μ-loop list z-room₀ za-room₀ z-due-room₀ za-due-room₀ at₀ sweeps₀ words₀ wrong₀ z-room za-room z-due-room za-due-room at sweeps words wrong =
+    length list - at
+
+loop-holds : tie.Need-loop-holds Inv-loop μ-loop
+loop-holds c = search needs
+
+add-sweeps : tie.Need-add-sweeps Inv-loop μ-loop
+add-sweeps c = search needs
+
+sub-wrong-in : tie.Need-sub-wrong-in Inv-loop μ-loop
+sub-wrong-in c = search needs
+
+part-wrong-in-start : tie.Need-part-wrong-in-start Inv-loop μ-loop
+part-wrong-in-start c = search needs
+
+part-wrong-in-end : tie.Need-part-wrong-in-end Inv-loop μ-loop
+part-wrong-in-end c = search needs
+
+wrong-in-requires : tie.Need-wrong-in-requires Inv-loop μ-loop
+wrong-in-requires c κs = search needs
+
+add-wrong : tie.Need-add-wrong Inv-loop μ-loop
+add-wrong c = search needs
+
+sub-extent-of : tie.Need-sub-extent-of Inv-loop μ-loop
+sub-extent-of c = search needs
+
+part-extent-of-start : tie.Need-part-extent-of-start Inv-loop μ-loop
+part-extent-of-start c = search needs
+
+part-extent-of-end : tie.Need-part-extent-of-end Inv-loop μ-loop
+part-extent-of-end c = search needs
+
+extent-of-requires : tie.Need-extent-of-requires Inv-loop μ-loop
+extent-of-requires c κs = search needs
+
+add-words : tie.Need-add-words Inv-loop μ-loop
+add-words c = search needs
+
+add-at : tie.Need-add-at Inv-loop μ-loop
+add-at c = search needs
+
+loop-less : tie.Need-loop-less Inv-loop μ-loop
+loop-less c = search needs
+
+loop-again : tie.Need-loop-again Inv-loop μ-loop
+loop-again c = search needs
+
+print-counts-requires : tie.Need-print-counts-requires Inv-loop μ-loop
+print-counts-requires c κs = search needs
+
+same-length : tie.Need-same-length Inv-loop μ-loop
+same-length c = search needs
+
+same-length-2 : tie.Need-same-length-2 Inv-loop μ-loop
+same-length-2 c = search needs
+
+same-length-3 : tie.Need-same-length-3 Inv-loop μ-loop
+same-length-3 c = search needs
+
+same-length-4 : tie.Need-same-length-4 Inv-loop μ-loop
+same-length-4 c = search needs
+
+returns : tie.Need-returns Inv-loop μ-loop
+returns c = search needs
+
+pub check-list-spec : {M : Type 1} → statement M
+check-list-spec =
+    tie.close
+    (tie.spec
+    Inv-loop
+    μ-loop
+    loop-holds
+    add-sweeps
+    sub-wrong-in
+    part-wrong-in-start
+    part-wrong-in-end
+    wrong-in-requires
+    add-wrong
+    sub-extent-of
+    part-extent-of-start
+    part-extent-of-end
+    extent-of-requires
+    add-words
+    add-at
+    loop-less
+    loop-again
+    print-counts-requires
+    same-length
+    same-length-2
+    same-length-3
+    same-length-4
+    returns)

@@ -1,0 +1,58 @@
+-- `sweeps::undo` meets its contract: what `partner` and `execute` ensure, by the laws of machine's Sweep.antt. Assumes nothing.
+use native.Mathlib.Omega.{arith}
+use mathlib.Core.Path.{sym, ap, _∙_}
+use borrow.Author.Needs.{needs}
+use Rattle.settings.proofs.Refusals.{refusal-not-0}
+use Rattle.words.specs.Partner.{partneredSays}
+use Rattle.machine.proofs.Sweep.{undo-word, undo-refused}
+use Rattle.sweeps.proofs.undo.Statement.{statement}
+use Rattle.sweeps.proofs.undo.Tie as tie
+
+partner-requires : tie.Need-partner-requires
+partner-requires c κs = search needs
+
+enum-known-partner : tie.Need-enum-known-partner
+enum-known-partner c = search needs
+
+execute-requires : tie.Need-execute-requires
+execute-requires c κs = search needs
+
+enum-known-refusal : tie.Need-enum-known-refusal
+enum-known-refusal c = search needs
+
+same-length : tie.Need-same-length
+same-length c = search needs
+
+same-length-2 : tie.Need-same-length-2
+same-length-2 c = search needs
+
+returns : tie.Need-returns
+returns c =
+    let e = c .before .before .before .before in
+    let m = e .before .before .before .before in
+    let p = m .before .before in
+    let s = p .before .before .before in
+    e .execute .ensures
+    ∙ undo-word (s .args .settings) (s .args .word) (s .args .z .now) (s .args .za .now) _ (sym (ap partneredSays (m .partner2 .given .1)) ∙ p .partner .ensures)
+
+returns-2 : tie.Need-returns-2
+returns-2 c =
+    let m = c .before in
+    let p = m .before .before in
+    let s = p .before .before .before in
+    undo-refused (s .args .settings) (s .args .word) (s .args .z .now) (s .args .za .now) _
+    (sym (ap partneredSays (m .refusal .given .1)) ∙ p .partner .ensures)
+    (λ e. omega (arith, refusal-not-0 (m .refusal .given .0 .0)))
+
+pub undo-spec : {M : Type 1} → statement M
+undo-spec =
+    tie.close
+    (tie.spec
+    partner-requires
+    enum-known-partner
+    execute-requires
+    enum-known-refusal
+    same-length
+    same-length-2
+    returns
+    returns-2)
