@@ -399,8 +399,7 @@ fn wrong_in(
     let count = count_of(sweep);
     print_number(b"sweep ", number as u64);
     print_number(b": VL ", vl as u64);
-    print_number(b", ", count as u64);
-    io::write_all(1, b" words");
+    print_number(b", words ", count as u64);
     if columns_of(vl, count) > sweep.len() / stored::COLUMN {
         io::write_all(1, b", wrong: the file ends before it does\n");
         return 1;
