@@ -1,10 +1,12 @@
--- The sweeps of specs/SweepExamples.antt that fail a premise do not close, though each meets the others. Assumes nothing.
+-- The sweep of specs/SweepExamples.antt that meets every premise closes; those that fail one do not, though they meet the others. Assumes nothing.
 use Prim.Native.Nat.{ℕ, zero, suc}
 use native.Mathlib.Omega.{arith}
 use mathlib.Core.Path.{_≡_, refl, sym, ap, _∙_, subst}
 use mathlib.Core.Logic.{_≢_}
 use mathlib.Core.Bool.{false}
 use mathlib.Core.List.{List, [], _∷_, map, reverse}
+use lib.Dec.{eqb}
+use borrow.Author.Tests.{eq-eqb}
 use Rattle.laws.proofs.Tests.{never-both}
 use Rattle.settings.specs.Valid.{validSettings, vectorBytes, arrayBytes}
 use Rattle.words.specs.Says.{describe}
@@ -14,22 +16,22 @@ use Rattle.words.specs.declared.Family.{Family}
 use Rattle.words.specs.declared.Family.the-variants.{Saturating}
 use Rattle.words.specs.declared.Fields.{Fields}
 use Rattle.elements.specs.Elements.{lowBytes, vector, element}
+use Rattle.elements.specs.Files.{vectorAt, laid, renewed}
 use Rattle.elements.proofs.Vectors.{Bytes-vector}
-use Rattle.machine.specs.Step.{register}
+use Rattle.recipes.specs.Element.{newBytes}
+use Rattle.machine.specs.Step.{register, newRegister, zAfter}
 use Rattle.machine.specs.Execute.{stepped, executeFields, executePaper}
 use Rattle.machine.specs.Run.{Report, Run}
-use Rattle.machine.specs.Sweep.{SourcesApart, acceptedWith, Closes}
-use Rattle.machine.specs.SweepExamples.{Given, settings, startZ, startZa, Answer, answerOf, ownFirst, ownSecond, saturates, unknown, wrongMode, answers-hold, Open, EachNeeded}
+use Rattle.machine.specs.Sweep.{SourcesApart, acceptedWith}
+use Rattle.machine.specs.SweepExamples.{Given, settings, startZ, startZa, Answer, answerOf, ownFirst, ownSecond, saturates, unknown, wrongMode, answers-hold}
+use Rattle.machine.specs.SweepExamples.{closing, Shut, Accepted, Wrapping, Apart, AllMet, Open, EachNeeded}
+use Rattle.machine.proofs.Sweep.{sweep-closes}
 
 first-number : List Report → ℕ
 first-number [] = 0
 first-number (r ∷ rs) = r .0
 
--- the sweep that is shown not to close
-abbrev Shut : Given → Type 0
-Shut g = Closes (settings g) (g .words) (startZ g) startZa
-
--- ---- answers that rule it out
+-- ---- answers that rule out that a sweep closes
 
 module _ (bytes r : ℕ) (g : Given) (x : Answer) (is : answerOf bytes r g ≡ x) where
   -- an element did not come back
@@ -69,7 +71,7 @@ other family n e = never-both (isC family) (ap isC e) n
 
 stays-open : (g : Given) (Meets : Type 0) → Meets → (Shut g → ⊥) → Open g Meets
 stays-open g Meets m n =
-    record { z-bytes = Bytes-vector (λ e. g .each) 2 256; za-bytes = Bytes-vector (λ e. 0) 2 128; meets = m; not-closed = n }
+    record { z-bytes = Bytes-vector (λ e. g .each) 2 256; za-bytes = Bytes-vector (λ e. 0) 2 128; meets = m; not-shut = n }
 
 -- what a word decodes to
 abbrev decoded : Given → ℕ → ℕ × Fields
@@ -80,6 +82,23 @@ Wraps f = f .family ≢ Saturating
 
 abbrev Sources : Fields → Type 0
 Sources f = SourcesApart (f .family) f
+
+-- a word of A or B, by its registers
+apart : (d n m : ℕ) → eqb d n ≡ false → eqb d m ≡ false → (d ≢ n) × (d ≢ m)
+apart d n m p q = ((λ e. never-both (eqb d n) (eq-eqb d n e) p), (λ e. never-both (eqb d m) (eq-eqb d m e) q))
+
+pub all-met : AllMet
+unfolding decodePaper decodeEnabled describe enables validSettings vectorBytes arrayBytes executePaper executeFields stepped zAfter
+    newRegister renewed laid newBytes vector lowBytes vectorAt
+all-met =
+    let accepted : Accepted closing = (refl, (refl, tt)) in
+    let wrapping : Wrapping closing = (by-fields (decoded closing 0x0E228020) Wraps (other _ refl), (by-fields (decoded closing 0x0E208023) Wraps (other _ refl), tt)) in
+    let sources : Apart closing = (by-fields (decoded closing 0x0E228020) Sources (apart 0 1 2 refl refl), (by-fields (decoded closing 0x0E208023) Sources (apart 3 1 0 refl refl), tt)) in (
+      accepted,
+      wrapping,
+      sources,
+      sweep-closes (settings closing) (closing .words) (startZ closing) startZa (Bytes-vector (λ e. closing .each) 2 256) (Bytes-vector (λ e. 0) 2 128) accepted wrapping sources,
+    )
 
 pub each-needed : EachNeeded
 unfolding nth first-number decodePaper decodeEnabled describe enables validSettings vectorBytes arrayBytes executePaper executeFields stepped vector
@@ -104,7 +123,7 @@ each-needed =
       accepted-4 =
           stays-open wrongMode _ (
             (by-fields (decoded wrongMode 0x0E228020) Wraps (other _ refl), tt),
-            (by-fields (decoded wrongMode 0x0E228020) Sources ((λ (e : _≡_ {A = ℕ} 0 1). omega arith), (λ (e : _≡_ {A = ℕ} 0 2). omega arith)), tt),
+            (by-fields (decoded wrongMode 0x0E228020) Sources (apart 0 1 2 refl refl), tt),
           )
           (refused 2 0 wrongMode _ (ap (nth 5) answers-hold) (λ (e : _≡_ {A = ℕ} 4 0). omega arith));
     }

@@ -129,13 +129,10 @@ unfolding flipped decodePaper decodeEnabled describe enables validSettings vecto
     newElement newBytes newRegister zAfter stride selected firstVector writesVector newVector zaAfter stepped executeFields executePaper runOf
 flipped-is = refl
 
--- ---- none but the first closes, though each meets the other premises (proofs/SweepExamples.antt)
+-- ---- which of them close (proofs/SweepExamples.antt)
 
-pub record Open (g : Given) (Meets : Type 0) : Type 0 where
-  pub z-bytes : Bytes (startZ g)
-  pub za-bytes : Bytes startZa
-  pub meets : Meets
-  pub not-closed : Closes (settings g) (g .words) (startZ g) startZa → ⊥
+abbrev pub Shut : Given → Type 0
+Shut g = Closes (settings g) (g .words) (startZ g) startZa
 
 abbrev pub Accepted : Given → Type 0
 Accepted g = AcceptedInTurn (executePaper (settings g)) (g .words) (startZ g) startZa
@@ -146,6 +143,18 @@ Wrapping g = EveryWord (NotSaturating (settings g)) (g .words)
 abbrev pub Apart : Given → Type 0
 Apart g = EveryWord (NotItsOwnSource (settings g)) (g .words)
 
+-- the first meets every premise, so the premises can be met together; and it closes
+abbrev pub AllMet : Type 0
+AllMet = Accepted closing × Wrapping closing × Apart closing × Shut closing
+
+-- a sweep that does not close, and what it meets
+pub record Open (g : Given) (Meets : Type 0) : Type 0 where
+  pub z-bytes : Bytes (startZ g)
+  pub za-bytes : Bytes startZa
+  pub meets : Meets
+  pub not-shut : Shut g → ⊥
+
+-- each of the others meets every premise but one
 pub record EachNeeded : Type 0 where
   pub apart-first : Open ownFirst (Accepted ownFirst × Wrapping ownFirst)
   pub apart-second : Open ownSecond (Accepted ownSecond × Wrapping ownSecond)
