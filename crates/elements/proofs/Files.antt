@@ -9,11 +9,10 @@ use native.Mathlib.Decide.{decLe}
 use native.Mathlib.Omega.{arith}
 use lib.ListN.{length, getD, take, drop, length-append, length-take, length-drop, take-append-drop}
 use lib.Seq.{take-all, take-add, take-at, drop-at, drop-drop, take-append-le, drop-append-le, length-take-le, getD-take, getD-drop, ext-getD}
-use lib.Dec.{lit<}
 use Rattle.laws.proofs.Tests.{cond-holds, never-both}
 use Rattle.elements.specs.Elements.{splice}
 use Rattle.elements.specs.Files.{vectorAt, laid, renewed, replaced}
-use Rattle.elements.proofs.Elements.{Bytes, Bytes-append, Bytes-take, Bytes-drop, Bytes-splice}
+use Rattle.elements.proofs.Elements.{Bytes, Bytes-take, Bytes-drop, Bytes-splice}
 use Rattle.elements.proofs.Vectors.{within}
 
 -- vector v ends where the next one begins
@@ -117,11 +116,6 @@ unfolding laid
 laid-cong f g zero h = refl
 laid-cong f g (suc n) h = rw (laid-cong f g n (λ v q. h v (omega arith)), h n (le-refl (suc n)))
 
-pub Bytes-laid : (f : ℕ → List ℕ) (n : ℕ) → ((v : ℕ) → v < n → Bytes (f v)) → Bytes (laid f n)
-unfolding laid
-Bytes-laid f zero h i = lit< tt
-Bytes-laid f (suc n) h i = Bytes-append (laid f n) (f n) (Bytes-laid f n (λ v q. h v (omega arith))) (h n (le-refl (suc n))) i
-
 module _ (f : ℕ → List ℕ) (w : ℕ) where
   pub length-laid : (n : ℕ) → ((v : ℕ) → v < n → length (f v) ≡ w) → length (laid f n) ≡ n * w
   unfolding laid
@@ -161,18 +155,9 @@ module _ (writes : ℕ → Bool) (new : ℕ → List ℕ) (w n : ℕ) (s : List 
     now-wide : (v : ℕ) → v < n → length (Now v) ≡ w
     now-wide v h = cond-holds (λ (l : List ℕ). length l ≡ w) (writes v) (new v) (vectorAt w v s) (wide v h) (λ q. length-vectorAt w v s (room v n w s long h))
 
-    pub length-renewed : length (renewed writes new w n s) ≡ length s
-    unfolding renewed
-    length-renewed = length-laid Now w n now-wide ∙ sym long
-
     pub vectorAt-renewed : (v : ℕ) → v < n → vectorAt w v (renewed writes new w n s) ≡ cond (writes v) (new v) (vectorAt w v s)
     unfolding renewed
     vectorAt-renewed v h = vectorAt-laid Now w n v h now-wide
-
-  pub Bytes-renewed : ((v : ℕ) → v < n → writes v ≡ true → Bytes (new v)) → Bytes s → Bytes (renewed writes new w n s)
-  unfolding renewed
-  Bytes-renewed p b =
-      Bytes-laid Now n (λ v h. cond-holds Bytes (writes v) (new v) (vectorAt w v s) (p v h) (λ q. Bytes-vectorAt w v s b))
 
 -- only what is written counts
 pub renewed-cong : (writes : ℕ → Bool) (new new′ : ℕ → List ℕ) (w n : ℕ) (s : List ℕ) → ((v : ℕ) → v < n → writes v ≡ true → new v ≡ new′ v)

@@ -1,9 +1,8 @@
 -- Demand 3 for callers: the promises make the calls the run and the way back that the theorem speaks of. Assumes nothing.
-use Prim.Native.Nat.{ℕ, suc}
+use Prim.Native.Nat.{ℕ}
 use native.Mathlib.Omega.{arith}
 use mathlib.Core.Path.{_≡_, refl, sym, ap, ap₂, _∙_, subst}
-use mathlib.Core.List.{List, [], _∷_, map, reverse, reverseAux}
-use lib.ListN.{length}
+use mathlib.Core.List.{List, [], _∷_, map, reverse, reverseAux, nil≢cons, cons≢nil, head-eq-of-cons-eq, tail-eq-of-cons-eq}
 use Rattle.settings.specs.Refused.{refusalNumber}
 use Rattle.settings.specs.declared.Settings.{Settings}
 use Rattle.settings.proofs.Refusals.{refusal-not-0}
@@ -11,7 +10,7 @@ use Rattle.words.specs.Partner.{partneredSays, partnerPaper}
 use Rattle.words.specs.declared.Partnered.{Partnered}
 use Rattle.words.specs.declared.Partnered.the-variants as partnered
 use Rattle.machine.specs.Execute.{Outcome, executedSays, executePaper, ExecutePromise}
-use Rattle.machine.specs.Run.{Report, Run, Call, reportFirst, runOf}
+use Rattle.machine.specs.Run.{Report, reportOf, Run, PerWord, reportFirst, runOf}
 use Rattle.machine.specs.Sweep.{there, undoPaper, AcceptedInTurn, acceptedWith}
 use Rattle.machine.specs.Calls.{Promise, Calls, none, next, Followed, UndoCalls, AllDone, CallersSee}
 use Rattle.machine.specs.declared.Executed.{Executed}
@@ -34,8 +33,7 @@ undo-says s w z za r z′ za′ u = followed-says s w z za r z′ za′ (u .aske
 
 -- what an answer reports
 said : Executed → Report
-said (Done c) = (0, c .toggled, c .written)
-said (Refused r) = (refusalNumber r, 0, 0)
+said r = reportOf (executedSays r [] [])
 
 -- an answer leaves what its promise says, and goes before the others
 first-call : (r : Executed) (z za : List ℕ) (go : List ℕ → List ℕ → Run)
@@ -50,22 +48,23 @@ first-done : (r : Executed) (rs : List Executed) → AllDone (r ∷ rs) → (z z
 first-done (Done c) rs d z za Q q = (refl, q d)
 first-done (Refused r) rs d z za Q q = absurd d
 
-module _ (call : Call) (P : Promise) (says : (w : ℕ) (z za : List ℕ) (r : Executed) (z′ za′ : List ℕ) → P w z za r z′ za′ → executedSays r z′ za′ ≡ call w z za) where
+module _ (each : PerWord) (P : Promise)
+    (says : (w : ℕ) (z za : List ℕ) (r : Executed) (z′ za′ : List ℕ) → P w z za r z′ za′ → executedSays r z′ za′ ≡ each w z za) where
   calls-run : {ws z za z′ za′ : List ℕ} {rs : List Executed} → Calls P ws z za rs z′ za′
-      → runOf call ws z za ≡ record { z = z′; za = za′; reports = map said rs }
+      → runOf each ws z za ≡ record { z = z′; za = za′; reports = map said rs }
   unfolding runOf
   calls-run none = refl
   calls-run (next {w} {ws} {z} {za} {z₁} {za₁} {z₂} {za₂} {r} {rs} p c) =
-      ap (λ (o : Outcome). reportFirst o (runOf call ws (o .z) (o .za))) (sym (says w z za r z₁ za₁ p))
-      ∙ first-call r z₁ za₁ (runOf call ws)
+      ap (λ (o : Outcome). reportFirst o (runOf each ws (o .z) (o .za))) (sym (says w z za r z₁ za₁ p))
+      ∙ first-call r z₁ za₁ (runOf each ws)
       ∙ ap (λ (q : Run). record { z = q .z; za = q .za; reports = said r ∷ q .reports }) (calls-run c)
 
   -- accepted answers are accepted words
-  calls-accepted : {ws z za z′ za′ : List ℕ} {rs : List Executed} → Calls P ws z za rs z′ za′ → AllDone rs → AcceptedInTurn call ws z za
+  calls-accepted : {ws z za z′ za′ : List ℕ} {rs : List Executed} → Calls P ws z za rs z′ za′ → AllDone rs → AcceptedInTurn each ws z za
   calls-accepted none d = tt
   calls-accepted (next {w} {ws} {z} {za} {z₁} {za₁} {z₂} {za₂} {r} {rs} p c) d =
-      subst (λ (o : Outcome). (o .number ≡ 0) × AcceptedInTurn call ws (o .z) (o .za)) (says w z za r z₁ za₁ p)
-      (first-done r rs d z₁ za₁ (AcceptedInTurn call ws) (calls-accepted c))
+      subst (λ (o : Outcome). (o .number ≡ 0) × AcceptedInTurn each ws (o .z) (o .za)) (says w z za r z₁ za₁ p)
+      (first-done r rs d z₁ za₁ (AcceptedInTurn each ws) (calls-accepted c))
 
 -- ---- the answers, in reverse order
 
@@ -88,32 +87,20 @@ said-outcome (Refused r) = refl
 said-known : (r q : Executed) → said r ≡ said q → r ≡ q
 said-known r q e = executed-known r q [] [] [] [] (said-outcome r ∙ ap outcome-of e ∙ sym (said-outcome q))
 
-head : List Report → Report
-head [] = (0, 0, 0)
-head (r ∷ rs) = r
-
-tail : List Report → List Report
-tail [] = []
-tail (r ∷ rs) = rs
-
 all-known : (rs qs : List Executed) → map said rs ≡ map said qs → rs ≡ qs
-unfolding head tail
 all-known [] [] e = refl
-all-known [] (q ∷ qs) e = let n : _≡_ {A = ℕ} 0 (suc (length (map said qs))) = ap length e in absurd (omega arith)
-all-known (r ∷ rs) [] e = let n : _≡_ {A = ℕ} (suc (length (map said rs))) 0 = ap length e in absurd (omega arith)
-all-known (r ∷ rs) (q ∷ qs) e = ap₂ _∷_ (said-known r q (ap head e)) (all-known rs qs (ap tail e))
+all-known [] (q ∷ qs) e = absurd (nil≢cons e)
+all-known (r ∷ rs) [] e = absurd (cons≢nil e)
+all-known (r ∷ rs) (q ∷ qs) e = ap₂ _∷_ (said-known r q (head-eq-of-cons-eq e)) (all-known rs qs (tail-eq-of-cons-eq e))
 
 -- ---- the statement
 
-execute-says : (s : Settings) (w : ℕ) (z za : List ℕ) (r : Executed) (z′ za′ : List ℕ) → ExecutePromise s w z za r z′ za′ → executedSays r z′ za′ ≡ executePaper s w z za
-execute-says s w z za r z′ za′ e = e
-
 pub callers-see : CallersSee
 callers-see s ws z za z₁ za₁ z₂ za₂ rs qs bz bza forward done c p backward =
-    let ran : there s ws z za ≡ record { z = z₁; za = za₁; reports = map said rs } = calls-run (executePaper s) (ExecutePromise s) (execute-says s) forward in
+    let ran : there s ws z za ≡ record { z = z₁; za = za₁; reports = map said rs } = calls-run (executePaper s) (ExecutePromise s) (λ w z za r z′ za′ e. e) forward in
     let undone : runOf (undoPaper s) (reverse ws) z₁ za₁ ≡ record { z = z₂; za = za₂; reports = map said qs } =
     calls-run (undoPaper s) (UndoCalls s) (undo-says s) backward in
-    let closed = sweep-closes s ws z za bz bza (calls-accepted (executePaper s) (ExecutePromise s) (execute-says s) forward done) c p in
+    let closed = sweep-closes s ws z za bz bza (calls-accepted (executePaper s) (ExecutePromise s) (λ w z za r z′ za′ e. e) forward done) c p in
     let same : _≡_ {A = Run} (record { z = z₂; za = za₂; reports = map said qs }) (record { z = z; za = za; reports = map said (reverse rs) }) =
     sym undone
     ∙ subst (λ (t : Run). runOf (undoPaper s) (reverse ws) (t .z) (t .za) ≡ record { z = z; za = za; reports = reverse (map acceptedWith (t .reports)) }) ran closed

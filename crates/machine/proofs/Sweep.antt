@@ -10,14 +10,12 @@ use Rattle.laws.proofs.Tests.{never-both, cond-holds}
 use Rattle.settings.specs.declared.Settings.{Settings}
 use Rattle.words.specs.Decode.{decodePaper}
 use Rattle.words.specs.Partner.{partnerWord, turned, isC, partnerPaper}
-use Rattle.words.specs.declared.Family.{Family}
-use Rattle.words.specs.declared.Family.the-variants.{ByElement, Vector, Saturating, LongLong, Long}
 use Rattle.words.specs.declared.Fields.{Fields}
-use Rattle.words.proofs.Answers.{partner-accepted, PartnerOf}
+use Rattle.words.proofs.Answers.{not-c, partner-accepted, PartnerOf}
 use Rattle.elements.specs.Elements.{Bytes}
 use Rattle.machine.specs.Execute.{Outcome, refusedWith, stepped, executePaper}
 use Rattle.machine.specs.Theorems.{Accepted}
-use Rattle.machine.specs.Run.{Report, reportOf, Run, Call, reportFirst, runOf}
+use Rattle.machine.specs.Run.{Report, reportOf, Run, PerWord, reportFirst, runOf}
 use Rattle.machine.specs.Sweep.{there, undoPaper}
 use Rattle.machine.specs.Sweep.{AcceptedInTurn, EveryWord, NotSaturating, SourcesApart, NotItsOwnSource, acceptedWith, SweepCloses}
 use Rattle.machine.specs.Sweep.{BothAccept, UndoAccepts, PartnersAccepted}
@@ -38,13 +36,6 @@ module _ (s : Settings) (w : ℕ) (z za : List ℕ) where
       ∙ ap (λ (p : ℕ × ℕ). cond (eqb (p .0) 0) (executePaper s (p .1) z za) (refusedWith (p .0) z za)) e
 
 -- ---- one word
-
-not-c : (family : Family) → family ≢ Saturating → isC family ≡ false
-not-c ByElement h = refl
-not-c Vector h = refl
-not-c Saturating h = absurd (h refl)
-not-c LongLong h = refl
-not-c Long h = refl
 
 module _ (s : Settings) (w : ℕ) (z za : List ℕ) where
   abbrev o : Outcome
@@ -69,11 +60,11 @@ module _ (s : Settings) (w : ℕ) (z za : List ℕ) where
       }
 
   -- the step back finds what the word left
-  undone : (f : Fields) → Accepted s w f z za → Bytes z → Bytes za → f .family ≢ Saturating → SourcesApart (f .family) f
+  undone : (f : Fields) → Accepted s w f z za → Bytes z → Bytes za → isC (f .family) ≡ false → SourcesApart (f .family) f
       → undoPaper s w (executePaper s w z za .z) (executePaper s w z za .za) ≡ undoneFrom (executePaper s w z za) z za
   unfolding undoPaper
   undone f a bz bza c p =
-      let q = partner-accepted s w f (decoded f a) (not-c (f .family) c) in
+      let q = partner-accepted s w f (decoded f a) c in
       rw (q .0)
       (accepted-steps s (partnerWord w) (turned f) (o .z) (o .za) (partner-in-turn f a (q .1))
       ∙ subst (λ (x : Outcome). stepped s (turned f) (x .z) (x .za) ≡ undoneFrom x z za) (sym (accepted-steps s w f z za a)) (step-back s w f z za a bz bza c p))
@@ -82,7 +73,7 @@ module _ (s : Settings) (w : ℕ) (z za : List ℕ) where
       → undoPaper s w (executePaper s w z za .z) (executePaper s w z za .za) ≡ undoneFrom (executePaper s w z za) z za
   word-undone bz bza n c p =
       let (f, a) = accepted-exactly s w z za .0 n in
-      undone f a bz bza (c f (decoded f a)) (p f (decoded f a))
+      undone f a bz bza (not-c (f .family) .0 (c f (decoded f a))) (p f (decoded f a))
 
 -- ---- the run
 
@@ -127,10 +118,10 @@ zeros-back : (rs before : List Report) → Zeros before → Zeros (reverseAux (m
 zeros-back [] before h = h
 zeros-back (r ∷ rs) before h = zeros-back rs (acceptedWith r ∷ before) (refl, h)
 
-by-reports : (call : Call) (ws z za : List ℕ) → Zeros (runOf call ws z za .reports) → AcceptedInTurn call ws z za
+by-reports : (each : PerWord) (ws z za : List ℕ) → Zeros (runOf each ws z za .reports) → AcceptedInTurn each ws z za
 unfolding runOf
-by-reports call [] z za h = tt
-by-reports call (w ∷ ws) z za h = (h .0, by-reports call ws (call w z za .z) (call w z za .za) (h .1))
+by-reports each [] z za h = tt
+by-reports each (w ∷ ws) z za h = (h .0, by-reports each ws (each w z za .z) (each w z za .za) (h .1))
 
 pub partners-accepted : PartnersAccepted
 partners-accepted s ws z za e =

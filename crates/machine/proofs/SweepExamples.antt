@@ -1,20 +1,20 @@
 -- The sweep of specs/SweepExamples.antt that meets every premise closes; those that fail one do not, though they meet the others. Assumes nothing.
-use Prim.Native.Nat.{ℕ, zero, suc}
+use Prim.Native.Nat.{ℕ}
 use native.Mathlib.Omega.{arith}
 use mathlib.Core.Path.{_≡_, refl, sym, ap, _∙_, subst}
 use mathlib.Core.Logic.{_≢_}
 use mathlib.Core.Bool.{false}
 use mathlib.Core.List.{List, [], _∷_, map, reverse}
 use lib.Dec.{eqb}
+use lib.ListN.{getD}
 use borrow.Author.Tests.{eq-eqb}
 use Rattle.laws.proofs.Tests.{never-both}
 use Rattle.settings.specs.Valid.{validSettings, vectorBytes, arrayBytes}
 use Rattle.words.specs.Says.{describe}
 use Rattle.words.specs.Decode.{enables, decodeEnabled, decodePaper}
-use Rattle.words.specs.Partner.{isC}
-use Rattle.words.specs.declared.Family.{Family}
 use Rattle.words.specs.declared.Family.the-variants.{Saturating}
 use Rattle.words.specs.declared.Fields.{Fields}
+use Rattle.words.proofs.Answers.{not-c}
 use Rattle.elements.specs.Elements.{lowBytes, vector, element}
 use Rattle.elements.specs.Files.{vectorAt, laid, renewed}
 use Rattle.elements.proofs.Vectors.{Bytes-vector}
@@ -24,7 +24,7 @@ use Rattle.machine.specs.Execute.{stepped, executeFields, executePaper}
 use Rattle.machine.specs.Run.{Report, Run}
 use Rattle.machine.specs.Sweep.{SourcesApart, acceptedWith}
 use Rattle.machine.specs.SweepExamples.{Given, settings, startZ, startZa, Answer, answerOf, ownFirst, ownSecond, saturates, unknown, wrongMode, answers-hold}
-use Rattle.machine.specs.SweepExamples.{closing, Shut, Accepted, Wrapping, Apart, AllMet, Open, EachNeeded}
+use Rattle.machine.specs.SweepExamples.{closing, ClosesFrom, AllBytes, AllAccepted, NoneSaturating, NoneItsOwnSource, AllMet, StaysOpen, EachNeeded}
 use Rattle.machine.proofs.Sweep.{sweep-closes}
 
 first-number : List Report → ℕ
@@ -35,7 +35,7 @@ first-number (r ∷ rs) = r .0
 
 module _ (bytes r : ℕ) (g : Given) (x : Answer) (is : answerOf bytes r g ≡ x) where
   -- an element did not come back
-  moved : x .returned ≢ x .start → Shut g → ⊥
+  moved : x .returned ≢ x .start → ClosesFrom g → ⊥
   unfolding answerOf
   moved h e =
       h (sym (ap (λ (a : Answer). a .returned) is)
@@ -43,7 +43,7 @@ module _ (bytes r : ℕ) (g : Given) (x : Answer) (is : answerOf bytes r g ≡ x
       ∙ ap (λ (a : Answer). a .start) is)
 
   -- the first partner was not accepted
-  refused : first-number (x .backward) ≢ first-number (reverse (map acceptedWith (x .forward))) → Shut g → ⊥
+  refused : first-number (x .backward) ≢ first-number (reverse (map acceptedWith (x .forward))) → ClosesFrom g → ⊥
   unfolding answerOf
   refused h e =
       h (sym (ap (λ (a : Answer). first-number (a .backward)) is)
@@ -53,9 +53,7 @@ module _ (bytes r : ℕ) (g : Given) (x : Answer) (is : answerOf bytes r g ≡ x
 -- ---- the lines of the table
 
 nth : ℕ → List Answer → Answer
-nth n [] = record { start = 0; after = 0; returned = 0; forward = []; backward = [] }
-nth zero (a ∷ rest) = a
-nth (suc n) (a ∷ rest) = nth n rest
+nth n answers = getD answers n (record { start = 0; after = 0; returned = 0; forward = []; backward = [] })
 
 -- what holds of a word's fields
 by-fields : (d : ℕ × Fields) (P : Fields → Type 0) → P (d .1) → (f : Fields) → d ≡ (0, f) → P f
@@ -65,13 +63,11 @@ by-fields d P p f e = subst P (ap (λ (x : ℕ × Fields). x .1) e) p
 no-fields : (d : ℕ × Fields) (P : Fields → Type 0) → d .0 ≢ 0 → (f : Fields) → d ≡ (0, f) → P f
 no-fields d P n f e = absurd (n (ap (λ (x : ℕ × Fields). x .0) e))
 
--- a family that is not C
-other : (family : Family) → isC family ≡ false → family ≢ Saturating
-other family n e = never-both (isC family) (ap isC e) n
+all-bytes : (g : Given) → AllBytes g
+all-bytes g = (Bytes-vector (λ e. g .each) 2 256, Bytes-vector (λ e. 0) 2 128)
 
-stays-open : (g : Given) (Meets : Type 0) → Meets → (Shut g → ⊥) → Open g Meets
-stays-open g Meets m n =
-    record { z-bytes = Bytes-vector (λ e. g .each) 2 256; za-bytes = Bytes-vector (λ e. 0) 2 128; meets = m; not-shut = n }
+stays-open : (g : Given) (Meets : Type 0) → Meets → (ClosesFrom g → ⊥) → StaysOpen g Meets
+stays-open g Meets m n = record { bytes = all-bytes g; meets = m; not-closed = n }
 
 -- what a word decodes to
 abbrev decoded : Given → ℕ → ℕ × Fields
@@ -91,13 +87,14 @@ pub all-met : AllMet
 unfolding decodePaper decodeEnabled describe enables validSettings vectorBytes arrayBytes executePaper executeFields stepped zAfter
     newRegister renewed laid newBytes vector lowBytes vectorAt
 all-met =
-    let accepted : Accepted closing = (refl, (refl, tt)) in
-    let wrapping : Wrapping closing = (by-fields (decoded closing 0x0E228020) Wraps (other _ refl), (by-fields (decoded closing 0x0E208023) Wraps (other _ refl), tt)) in
-    let sources : Apart closing = (by-fields (decoded closing 0x0E228020) Sources (apart 0 1 2 refl refl), (by-fields (decoded closing 0x0E208023) Sources (apart 3 1 0 refl refl), tt)) in (
+    let accepted : AllAccepted closing = (refl, (refl, tt)) in
+    let wrapping : NoneSaturating closing = (by-fields (decoded closing 0x0E228020) Wraps (not-c _ .1 refl), (by-fields (decoded closing 0x0E208023) Wraps (not-c _ .1 refl), tt)) in
+    let sources : NoneItsOwnSource closing = (by-fields (decoded closing 0x0E228020) Sources (apart 0 1 2 refl refl), (by-fields (decoded closing 0x0E208023) Sources (apart 3 1 0 refl refl), tt)) in (
+      all-bytes closing,
       accepted,
       wrapping,
       sources,
-      sweep-closes (settings closing) (closing .words) (startZ closing) startZa (Bytes-vector (λ e. closing .each) 2 256) (Bytes-vector (λ e. 0) 2 128) accepted wrapping sources,
+      sweep-closes (settings closing) (closing .words) (startZ closing) startZa (all-bytes closing .0) (all-bytes closing .1) accepted wrapping sources,
     )
 
 pub each-needed : EachNeeded
@@ -105,24 +102,24 @@ unfolding nth first-number decodePaper decodeEnabled describe enables validSetti
     lowBytes
 each-needed =
     record {
-      apart-first =
-          stays-open ownFirst _ ((refl, tt), (by-fields (decoded ownFirst 0x0E228021) Wraps (other _ refl), tt))
+      not-its-first =
+          stays-open ownFirst _ ((refl, tt), (by-fields (decoded ownFirst 0x0E228021) Wraps (not-c _ .1 refl), tt))
           (moved 2 1 ownFirst _ (ap (nth 1) answers-hold) (λ (e : _≡_ {A = ℕ} 0x0100 0x0101). omega arith));
-      apart-second =
-          stays-open ownSecond _ ((refl, tt), (by-fields (decoded ownSecond 0x0E228022) Wraps (other _ refl), tt))
+      not-its-second =
+          stays-open ownSecond _ ((refl, tt), (by-fields (decoded ownSecond 0x0E228022) Wraps (not-c _ .1 refl), tt))
           (moved 2 2 ownSecond _ (ap (nth 2) answers-hold) (λ (e : _≡_ {A = ℕ} 0x0100 0x0101). omega arith));
-      wrapping =
+      not-saturating =
           stays-open saturates _ ((refl, tt), (by-fields (decoded saturates 0x44BA3820) Sources tt, tt))
           (refused 4 0 saturates _ (ap (nth 3) answers-hold) (λ (e : _≡_ {A = ℕ} 6 0). omega arith));
-      accepted-3 =
+      not-refused-3 =
           stays-open unknown _ (
             (no-fields (decoded unknown 0x0E228020) Wraps (λ (e : _≡_ {A = ℕ} 3 0). omega arith), tt),
             (no-fields (decoded unknown 0x0E228020) Sources (λ (e : _≡_ {A = ℕ} 3 0). omega arith), tt),
           )
           (refused 2 0 unknown _ (ap (nth 4) answers-hold) (λ (e : _≡_ {A = ℕ} 3 0). omega arith));
-      accepted-4 =
+      not-refused-4 =
           stays-open wrongMode _ (
-            (by-fields (decoded wrongMode 0x0E228020) Wraps (other _ refl), tt),
+            (by-fields (decoded wrongMode 0x0E228020) Wraps (not-c _ .1 refl), tt),
             (by-fields (decoded wrongMode 0x0E228020) Sources (apart 0 1 2 refl refl), tt),
           )
           (refused 2 0 wrongMode _ (ap (nth 5) answers-hold) (λ (e : _≡_ {A = ℕ} 4 0). omega arith));

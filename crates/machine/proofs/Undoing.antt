@@ -1,21 +1,21 @@
 -- A step is undone by the step of the same fields with `subtract` flipped. Assumes nothing.
 use Prim.Native.Nat.{ℕ, _+_, _-_, _*_, _/_, _%_, _<_}
 use native.Mathlib.Omega.{arith}
-use mathlib.Core.Path.{_≡_, refl, sym, ap, ap₂, _∙_, subst}
+use mathlib.Core.Path.{_≡_, sym, ap, ap₂, _∙_, subst}
 use mathlib.Core.Logic.{_≢_, inl, inr, ⊎-elim}
 use mathlib.Core.Bool.{true, false}
 use mathlib.Core.List.{List}
 use lib.Dec.{eqb}
 use lib.ListN.{length}
 use borrow.Author.Tests.{eqb-true}
+use Rattle.laws.proofs.Tests.{never-both}
 use Rattle.settings.specs.Lengths.{VectorLength}
 use Rattle.settings.specs.Valid.{vectorBytes, arrayBytes}
 use Rattle.settings.specs.declared.Settings.{Settings}
 use Rattle.settings.proofs.Lengths.{vector-length, array-length}
-use Rattle.words.specs.Partner.{turned}
+use Rattle.words.specs.Partner.{turned, isC}
 use Rattle.words.specs.Ranges.{OfFamily, Ranges}
 use Rattle.words.specs.declared.Family.{Family}
-use Rattle.words.specs.declared.Family.the-variants.{ByElement, Vector, Saturating, LongLong, Long}
 use Rattle.words.specs.declared.Fields.{Fields}
 use Rattle.elements.specs.Files.{vectorAt}
 use Rattle.elements.proofs.Elements.{Bytes}
@@ -23,7 +23,7 @@ use Rattle.elements.proofs.Files.{room, length-vectorAt, Bytes-vectorAt, renewe
 use Rattle.bits.proofs.Bits.{toggled-comm}
 use Rattle.recipes.specs.Recipe.{recipeOf, newLength, perSource}
 use Rattle.recipes.proofs.Built.{length-newBytes}
-use Rattle.recipes.proofs.Undone.{recipe-turned, undo-vector, undo-whole}
+use Rattle.recipes.proofs.Undone.{saturates-c, recipe-turned, undo-vector, undo-whole}
 use Rattle.machine.specs.Step.{register, newRegister, zAfter, stride, selected, firstVector, writesVector, newVector, zaAfter}
 use Rattle.machine.specs.Execute.{Outcome, counted, stepped}
 use Rattle.machine.specs.Theorems.{Accepted}
@@ -104,28 +104,23 @@ counted-back : (written : ℕ) (z za z′ za′ : List ℕ) → counted written 
 counted-back written z za z′ za′ =
     ap (λ (t : ℕ). record { number = 0; toggled = t; written = written; z = z; za = za }) (ap₂ _+_ (toggled-comm z′ z) (toggled-comm za′ za))
 
--- the products of these wrap
-wrapping : (family : Family) (f : Fields) (i : ℕ) → family ≢ Saturating → recipeOf family f i .saturating ≡ false
-wrapping ByElement f i h = refl
-wrapping Vector f i h = refl
-wrapping Saturating f i h = absurd (h refl)
-wrapping LongLong f i h = refl
-wrapping Long f i h = refl
-
 -- a word that writes a V register has single source registers, and neither is the destination
 abbrev Single : Fields → Type 0
 Single f = (f .group ≡ 1) × (f .destination ≢ f .first) × (f .destination ≢ f .second)
 
-single : (f : Fields) → IntoZ f → OfFamily (f .family) f → f .family ≢ Saturating → SourcesApart (f .family) f → Single f
+single : (f : Fields) → IntoZ f → OfFamily (f .family) f → isC (f .family) ≡ false → SourcesApart (f .family) f → Single f
 single f (inl e) o c p =
     let q = subst (λ (x : Family). SourcesApart x f) e p in
     (subst (λ (x : Family). OfFamily x f) e o, q .0, q .1)
 single f (inr (inl e)) o c p =
     let q = subst (λ (x : Family). SourcesApart x f) e p in
     (subst (λ (x : Family). OfFamily x f) e o, q .0, q .1)
-single f (inr (inr e)) o c p = absurd (c e)
+single f (inr (inr e)) o c p = absurd (never-both (isC (f .family)) (ap isC e) c)
 
-module _ (s : Settings) (w : ℕ) (f : Fields) (z za : List ℕ) (a : Accepted s w f z za) (bz : Bytes z) (bza : Bytes za) (not-c : f .family ≢ Saturating) where
+module _ (s : Settings) (w : ℕ) (f : Fields) (z za : List ℕ) (a : Accepted s w f z za) (bz : Bytes z) (bza : Bytes za) (c : isC (f .family) ≡ false) where
+  wraps : (i : ℕ) → recipeOf (f .family) f i .saturating ≡ false
+  wraps i = saturates-c (f .family) f i ∙ c
+
   g : Ranges f
   g = accepted-ranges s w z za f a
 
@@ -137,9 +132,9 @@ module _ (s : Settings) (w : ℕ) (f : Fields) (z za : List ℕ) (a : Accepted s
   unfolding turned
   into-z i p =
       let n : ℕ = 8 * newLength (f .family) (vectorBytes s) in
-      let q : Single f = single f i (g .of-family) not-c p in
+      let q : Single f = single f i (g .of-family) c p in
       let same : zAfter s (turned f) (zAfter s f z) ≡ z =
-      z-back s (vector-length s (a .valid)) f g z (a .z-exact) bz (wrapping (f .family) f 0 not-c)
+      z-back s (vector-length s (a .valid)) f g z (a .z-exact) bz (wraps 0)
       (omega (arith, g .first, q .0)) (omega (arith, g .second, q .0)) (q .1) (q .2) in
       stepped-z s (turned f) (zAfter s f z) za i
       ∙ ap (λ (x : List ℕ). counted n (zAfter s f z) za x za) same
@@ -150,7 +145,7 @@ module _ (s : Settings) (w : ℕ) (f : Fields) (z za : List ℕ) (a : Accepted s
   into-za i =
       let n : ℕ = 8 * vectorBytes s * f .group * perSource (f .family) in
       let same : zaAfter s (turned f) z (zaAfter s f z za) ≡ za =
-      za-back s (array-length s (a .valid)) f g i z za (a .za-exact) bza (λ i. wrapping (f .family) f i not-c) in
+      za-back s (array-length s (a .valid)) f g i z za (a .za-exact) bza wraps in
       stepped-za s (turned f) z (zaAfter s f z za) i
       ∙ ap (λ (x : List ℕ). counted n z (zaAfter s f z za) z x) same
       ∙ counted-back n z za z (zaAfter s f z za)

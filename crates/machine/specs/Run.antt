@@ -1,4 +1,4 @@
--- A run of words: each is done in its turn, and has a report.
+-- A run of words: each in its turn, and with a report.
 use Prim.Native.Nat.{ℕ}
 use mathlib.Core.List.{List, [], _∷_}
 use Rattle.machine.specs.Execute.{Outcome}
@@ -16,14 +16,14 @@ pub record Run : Type 0 where
   pub za : List ℕ
   pub reports : List Report
 
--- what is done with a word, given Z and ZA
-abbrev pub Call : Type 0
-Call = ℕ → List ℕ → List ℕ → Outcome
+-- what comes of a word, given Z and ZA
+abbrev pub PerWord : Type 0
+PerWord = ℕ → List ℕ → List ℕ → Outcome
 
 abbrev pub reportFirst : Outcome → Run → Run
 reportFirst o r = record { z = r .z; za = r .za; reports = reportOf o ∷ r .reports }
 
 -- the words in their order: each finds Z and ZA as the one before left them
-unfoldable pub runOf : Call → List ℕ → List ℕ → List ℕ → Run
-runOf call [] z za = record { z = z; za = za; reports = [] }
-runOf call (w ∷ ws) z za = reportFirst (call w z za) (runOf call ws (call w z za .z) (call w z za .za))
+unfoldable pub runOf : PerWord → List ℕ → List ℕ → List ℕ → Run
+runOf each [] z za = record { z = z; za = za; reports = [] }
+runOf each (w ∷ ws) z za = reportFirst (each w z za) (runOf each ws (each w z za .z) (each w z za .za))

@@ -1,5 +1,6 @@
--- Demand 3: from where a run of words ends, their partners in reverse order lead back to its start. Statements only: proofs/Sweep.antt proves
--- each. A word is any number, so also one of 32 bits; its partner then has 32 bits too (`partner-fits` in words).
+-- Demand 3: from where a run of words ends, their partners in reverse order lead back to its start. Its own words stand in quotation marks.
+-- Statements only: proofs/Sweep.antt proves each. A word is any number, so also one of 32 bits; its partner then has 32 bits too
+-- (`partner-fits` in words).
 use Prim.Native.Nat.{ℕ}
 use mathlib.Core.Path.{_≡_}
 use mathlib.Core.Logic.{_≢_, _↔_}
@@ -14,7 +15,7 @@ use Rattle.words.specs.declared.Family.the-variants.{ByElement, Vector, Saturat
 use Rattle.words.specs.declared.Fields.{Fields}
 use Rattle.elements.specs.Elements.{Bytes}
 use Rattle.machine.specs.Execute.{refusedWith, executePaper}
-use Rattle.machine.specs.Run.{Report, Run, Call, runOf}
+use Rattle.machine.specs.Run.{Report, Run, PerWord, runOf}
 
 -- ---- there and back
 
@@ -23,7 +24,7 @@ abbrev pub there : Settings → List ℕ → List ℕ → List ℕ → Run
 there s ws z za = runOf (executePaper s) ws z za
 
 -- one word of the way back: `partner` is asked for the word's partner, and `execute` is given it. The number is 0 only where both accept
-unfoldable pub undoPaper : Settings → Call
+unfoldable pub undoPaper : Settings → PerWord
 undoPaper s w z za = cond (eqb (partnerPaper s w .0) 0) (executePaper s (partnerPaper s w .1) z za) (refusedWith (partnerPaper s w .0) z za)
 
 -- the way back, from where the words led: "each word's partner in reverse order"
@@ -33,9 +34,9 @@ back s ws z za = runOf (undoPaper s) (reverse ws) (there s ws z za .z) (there s 
 -- ---- what is asked of the words
 
 -- "each accepted for execution in its turn". Where there is a word, this says that the settings are valid, and Z and ZA of the right lengths
-abbrev pub AcceptedInTurn : Call → List ℕ → List ℕ → List ℕ → Type 0
-AcceptedInTurn call [] z za = Unit {0}
-AcceptedInTurn call (w ∷ ws) z za = (call w z za .number ≡ 0) × AcceptedInTurn call ws (call w z za .z) (call w z za .za)
+abbrev pub AcceptedInTurn : PerWord → List ℕ → List ℕ → List ℕ → Type 0
+AcceptedInTurn each [] z za = Unit {0}
+AcceptedInTurn each (w ∷ ws) z za = (each w z za .number ≡ 0) × AcceptedInTurn each ws (each w z za .z) (each w z za .za)
 
 abbrev pub EveryWord : (ℕ → Type 0) → List ℕ → Type 0
 EveryWord P [] = Unit {0}

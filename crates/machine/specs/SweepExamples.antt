@@ -1,4 +1,5 @@
--- Demand 3 on numbers: a sweep that closes, and for each premise words that fail it and whose sweep does not close. So each premise is needed.
+-- Demand 3 on numbers: a sweep that closes, and for each premise on the words a word that fails it and whose sweep does not close. So each is
+-- needed.
 use Prim.Native.Nat.{ℕ}
 use mathlib.Core.Path.{_≡_, refl}
 use mathlib.Core.List.{List, [], _∷_, map}
@@ -118,46 +119,49 @@ unfolding answerOf decodePaper decodeEnabled describe enables validSettings vect
     runOf undoPaper partnerWord partnerPaper
 answers-hold = refl
 
--- register 0 after 44BA2820, which is 44BA3820 with S flipped, is executed where the words led
-unfoldable pub flipped : Given → ℕ
-flipped g = element 4 (executePaper (settings g) 0x44BA2820 (there (settings g) (g .words) (startZ g) startZa .z) startZa .z) 0
+-- register 0 after 44BA3820 with S flipped is executed where 44BA3820 led
+unfoldable pub flipped : ℕ
+flipped =
+    element 4 (executePaper (settings saturates) (partnerWord 0x44BA3820) (there (settings saturates) (saturates .words) (startZ saturates) startZa .z) startZa .z) 0
 
 -- it was 80008000
-pub flipped-is : flipped saturates ≡ 0xFFFFFFFF
-unfolding flipped decodePaper decodeEnabled describe enables validSettings vectorBytes arrayBytes
+pub flipped-is : flipped ≡ 0xFFFFFFFF
+unfolding flipped partnerWord decodePaper decodeEnabled describe enables validSettings vectorBytes arrayBytes
     elementAt lowBytes vector vectorAt laid renewed SInt Int low product accumulate laneStep clamp SignedSat satStep step overBits overBytes
     newElement newBytes newRegister zAfter stride selected firstVector writesVector newVector zaAfter stepped executeFields executePaper runOf
 flipped-is = refl
 
 -- ---- which of them close (proofs/SweepExamples.antt)
 
-abbrev pub Shut : Given → Type 0
-Shut g = Closes (settings g) (g .words) (startZ g) startZa
+abbrev pub ClosesFrom : Given → Type 0
+ClosesFrom g = Closes (settings g) (g .words) (startZ g) startZa
 
-abbrev pub Accepted : Given → Type 0
-Accepted g = AcceptedInTurn (executePaper (settings g)) (g .words) (startZ g) startZa
+abbrev pub AllBytes : Given → Type 0
+AllBytes g = Bytes (startZ g) × Bytes startZa
 
-abbrev pub Wrapping : Given → Type 0
-Wrapping g = EveryWord (NotSaturating (settings g)) (g .words)
+abbrev pub AllAccepted : Given → Type 0
+AllAccepted g = AcceptedInTurn (executePaper (settings g)) (g .words) (startZ g) startZa
 
-abbrev pub Apart : Given → Type 0
-Apart g = EveryWord (NotItsOwnSource (settings g)) (g .words)
+abbrev pub NoneSaturating : Given → Type 0
+NoneSaturating g = EveryWord (NotSaturating (settings g)) (g .words)
+
+abbrev pub NoneItsOwnSource : Given → Type 0
+NoneItsOwnSource g = EveryWord (NotItsOwnSource (settings g)) (g .words)
 
 -- the first meets every premise, so the premises can be met together; and it closes
 abbrev pub AllMet : Type 0
-AllMet = Accepted closing × Wrapping closing × Apart closing × Shut closing
+AllMet = AllBytes closing × AllAccepted closing × NoneSaturating closing × NoneItsOwnSource closing × ClosesFrom closing
 
 -- a sweep that does not close, and what it meets
-pub record Open (g : Given) (Meets : Type 0) : Type 0 where
-  pub z-bytes : Bytes (startZ g)
-  pub za-bytes : Bytes startZa
+pub record StaysOpen (g : Given) (Meets : Type 0) : Type 0 where
+  pub bytes : AllBytes g
   pub meets : Meets
-  pub not-shut : Shut g → ⊥
+  pub not-closed : ClosesFrom g → ⊥
 
 -- each of the others meets every premise but one
 pub record EachNeeded : Type 0 where
-  pub apart-first : Open ownFirst (Accepted ownFirst × Wrapping ownFirst)
-  pub apart-second : Open ownSecond (Accepted ownSecond × Wrapping ownSecond)
-  pub wrapping : Open saturates (Accepted saturates × Apart saturates)
-  pub accepted-3 : Open unknown (Wrapping unknown × Apart unknown)
-  pub accepted-4 : Open wrongMode (Wrapping wrongMode × Apart wrongMode)
+  pub not-its-first : StaysOpen ownFirst (AllAccepted ownFirst × NoneSaturating ownFirst)
+  pub not-its-second : StaysOpen ownSecond (AllAccepted ownSecond × NoneSaturating ownSecond)
+  pub not-saturating : StaysOpen saturates (AllAccepted saturates × NoneItsOwnSource saturates)
+  pub not-refused-3 : StaysOpen unknown (NoneSaturating unknown × NoneItsOwnSource unknown)
+  pub not-refused-4 : StaysOpen wrongMode (NoneSaturating wrongMode × NoneItsOwnSource wrongMode)

@@ -6,7 +6,7 @@ use mathlib.Core.Bool.{Bool, false, not}
 use mathlib.Core.List.{List, _++_}
 use lib.ListN.{length, take, drop, take-append-drop}
 use lib.Seq.{take-all, take-at, drop-at, length-take-le}
-use Rattle.words.specs.Partner.{turned}
+use Rattle.words.specs.Partner.{turned, isC}
 use Rattle.words.specs.declared.Family.{Family}
 use Rattle.words.specs.declared.Family.the-variants.{ByElement, Vector, Saturating, LongLong, Long}
 use Rattle.words.specs.declared.Fields.{Fields}
@@ -21,6 +21,14 @@ use Rattle.recipes.specs.Element.{chosen, newElement, newBytes}
 use Rattle.recipes.specs.declared.Recipe.{Recipe}
 use Rattle.recipes.proofs.Built.{whole-elements, length-newBytes}
 use Rattle.recipes.proofs.Sizes.{power, element-newBytes}
+
+-- only products of C saturate
+pub saturates-c : (family : Family) (f : Fields) (i : ℕ) → recipeOf family f i .saturating ≡ isC family
+saturates-c ByElement f i = refl
+saturates-c Vector f i = refl
+saturates-c Saturating f i = refl
+saturates-c LongLong f i = refl
+saturates-c Long f i = refl
 
 -- what r adds is subtracted, and what it subtracts is added
 abbrev pub opposite : Recipe → Recipe

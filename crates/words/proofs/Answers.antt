@@ -2,10 +2,10 @@
 use Prim.Native.Nat.{ℕ, _<_}
 use native.Mathlib.Omega.{arith}
 use mathlib.Core.Path.{_≡_, refl, sym, ap, _∙_, subst}
-use mathlib.Core.Logic.{_↔_}
+use mathlib.Core.Logic.{_↔_, _≢_}
 use mathlib.Core.Bool.{true, false}
 use borrow.Author.Tests.{ne-eqb}
-use Rattle.laws.proofs.Tests.{by-cond}
+use Rattle.laws.proofs.Tests.{never-both, by-cond}
 use Rattle.settings.specs.Valid.{validSettings}
 use Rattle.settings.specs.declared.Settings.{Settings}
 use Rattle.settings.proofs.Refusals.{refused-not-0, refused-known}
@@ -13,6 +13,8 @@ use Rattle.words.specs.Says.{table, describe}
 use Rattle.words.specs.Decode.{enables, noFields, decodedSays, enabledOnly, decodeEnabled, decodePaper}
 use Rattle.words.specs.Partner.{partnerWord, turned, isC, partneredSays, partnerPaper}
 use Rattle.words.specs.Sign.{partnerIn}
+use Rattle.words.specs.declared.Family.{Family}
+use Rattle.words.specs.declared.Family.the-variants.{ByElement, Vector, Saturating, LongLong, Long}
 use Rattle.words.specs.declared.Fields.{Fields}
 use Rattle.words.specs.declared.Described.{Described}
 use Rattle.words.specs.declared.Described.the-variants.{As, Nothing}
@@ -100,6 +102,17 @@ partner-is s w f e =
 pub partner-refused : (s : Settings) (w n : ℕ) → decodePaper s w ≡ (n, noFields) → 0 < n → partnerPaper s w ≡ (n, 0)
 unfolding partnerPaper
 partner-refused s w n e h = rw (e, ne-eqb n 0 (λ z. omega arith))
+
+-- the test for C passes for C alone
+pub not-c : (family : Family) → (family ≢ Saturating) ↔ (isC family ≡ false)
+not-c family = (by family, λ n e. never-both (isC family) (ap isC e) n)
+  where
+    by : (family : Family) → family ≢ Saturating → isC family ≡ false
+    by ByElement h = refl
+    by Vector h = refl
+    by Saturating h = absurd (h refl)
+    by LongLong h = refl
+    by Long h = refl
 
 -- flipping `subtract` asks for no other feature
 enables-turned : (features : ℕ) (f : Fields) → enables features (turned f) ≡ enables features f
