@@ -23,7 +23,7 @@ const RANDOM: u32 = 0;
 const MIXED: u32 = 9;
 
 // The value of a digit: `0` to `9` are the bytes 48 to 57, and `A` to `F` 65 to 70.
-fn digit(byte: u8) -> u32
+pub fn digit(byte: u8) -> u32
     ensures { λ r. ⌜ r < 16 ⌝ }
 {
     let code = byte as u32;

@@ -1,7 +1,9 @@
 // Runs the stored sweeps there and back, and holds each partner, each count and each byte to what the second program,
 // in C, says of it. The sweeps are on standard input, made by `second sweeps`; second/README.md has their columns.
 ghost use mathlib.Core.Path.{_≡_};
+ghost use mathlib.Core.Bool.{true};
 ghost use Prim.Native.Nat.{_+_, _*_, _≤_, _<_};
+ghost use Rattle.settings.specs.Valid.{validSettings};
 ghost use Rattle.machine.specs.Execute.{executedSays};
 ghost use Rattle.machine.specs.Sweep.{undoPaper};
 use machine::Counts;
@@ -54,33 +56,21 @@ fn count_of(sweep: &[u8]) -> u32 {
     stored::number_of(sweep, COUNT)
 }
 
-fn vl_of(sweep: &[u8]) -> u32 {
-    let settings = stored::settings_of(sweep);
-    settings.vl
-}
-
-// The bytes of Z at a VL, 32 registers of VL/8 bytes, and 0 where there is no such VL.
-fn z_length(vl: u32) -> usize
+// The bytes of Z: 32 registers.
+fn z_length(settings: Settings) -> usize
+    requires { ⌜ validSettings settings ≡ true ⌝ }
     ensures { λ r. ⌜ r ≤ 2048 ⌝ }
 {
-    match vl {
-        128 => 512,
-        256 => 1024,
-        512 => 2048,
-        _ => 0,
-    }
+    32 * (settings.vector_bytes() as usize)
 }
 
-// The bytes of ZA at a VL, VL/8 vectors of VL/8 bytes, and 0 where there is no such VL.
-fn za_length(vl: u32) -> usize
+// The bytes of ZA: as many vectors as a vector has bytes.
+fn za_length(settings: Settings) -> usize
+    requires { ⌜ validSettings settings ≡ true ⌝ }
     ensures { λ r. ⌜ r ≤ 4096 ⌝ }
 {
-    match vl {
-        128 => 256,
-        256 => 1024,
-        512 => 4096,
-        _ => 0,
-    }
+    let vector = settings.array_bytes() as usize;
+    vector * vector
 }
 
 // The column where word i's line begins. After the last word, Z begins there.
@@ -91,10 +81,11 @@ fn line_of(i: u32) -> usize
 }
 
 // The columns of a sweep of so many words.
-fn columns_of(vl: u32, count: u32) -> usize
+fn columns_of(settings: Settings, count: u32) -> usize
+    requires { ⌜ validSettings settings ≡ true ⌝ }
     ensures { λ r. ⌜ (0 < r) × (count ≤ r) ⌝ }
 {
-    line_of(count) + (z_length(vl) + za_length(vl)) / BYTES
+    line_of(count) + (z_length(settings) + za_length(settings)) / BYTES
 }
 
 // A number of word i's line.
@@ -104,16 +95,11 @@ fn of_word(sweep: &[u8], i: u32, column: usize) -> u32
     stored::number_of(sweep, line_of(i) + column)
 }
 
-// Byte i of those that are stored from a column on, the first in the column's first two digits, and 0 past the last
-// column.
-fn stored_byte(sweep: &[u8], column: usize, i: usize) -> u8 {
-    let columns = sweep.len() / stored::COLUMN;
-    if column >= columns {
-        return 0;
-    }
-    if i / BYTES >= columns - column {
-        return 0;
-    }
+// Byte i of those that are stored from a column on, the first in the column's first two digits. The column is below
+// 2^63, and a quarter of i below 2^62, so their sum is a column too.
+fn stored_byte(sweep: &[u8], column: usize, i: usize) -> u8
+    requires { ⌜ column < 9223372036854775808 ⌝ }
+{
     let number = stored::number_of(sweep, column + i / BYTES);
     let place = i % BYTES;
     match place {
@@ -125,7 +111,9 @@ fn stored_byte(sweep: &[u8], column: usize, i: usize) -> u8 {
 }
 
 // The bytes that are stored from a column on.
-fn read_bytes(sweep: &[u8], column: usize, bytes: &mut [u8]) {
+fn read_bytes(sweep: &[u8], column: usize, bytes: &mut [u8])
+    requires { ⌜ column < 9223372036854775808 ⌝ }
+{
     let mut i = 0;
     while i < bytes.len() {
         bytes[i] = stored_byte(sweep, column, i);
@@ -216,8 +204,7 @@ fn has_partner(settings: Settings, word: u32, due: u32) -> bool {
 }
 
 // One step of the way there.
-fn go(sweep: &[u8], i: u32, z: &mut [u8], za: &mut [u8]) -> Fault {
-    let settings = stored::settings_of(sweep);
+fn go(settings: Settings, sweep: &[u8], i: u32, z: &mut [u8], za: &mut [u8]) -> Fault {
     let word = of_word(sweep, i, WORD);
     if !has_partner(settings, word, of_word(sweep, i, PARTNER)) {
         return Fault::Partner(i);
@@ -236,11 +223,11 @@ fn undo(settings: Settings, word: u32, z: &mut [u8], za: &mut [u8]) -> Executed
 }
 
 // The words from the first to the last. Answers the first fault.
-fn go_all(sweep: &[u8], z: &mut [u8], za: &mut [u8]) -> Fault {
+fn go_all(settings: Settings, sweep: &[u8], z: &mut [u8], za: &mut [u8]) -> Fault {
     let count = count_of(sweep);
     let mut i = 0;
     while i < count {
-        let fault = go(sweep, i, z, za);
+        let fault = go(settings, sweep, i, z, za);
         if is_fault(fault) {
             return fault;
         }
@@ -250,8 +237,7 @@ fn go_all(sweep: &[u8], z: &mut [u8], za: &mut [u8]) -> Fault {
 }
 
 // The words from the last to the first. Answers the first fault.
-fn undo_all(sweep: &[u8], z: &mut [u8], za: &mut [u8]) -> Fault {
-    let settings = stored::settings_of(sweep);
+fn undo_all(settings: Settings, sweep: &[u8], z: &mut [u8], za: &mut [u8]) -> Fault {
     let mut i = count_of(sweep);
     while i > 0 {
         i -= 1;
@@ -265,9 +251,16 @@ fn undo_all(sweep: &[u8], z: &mut [u8], za: &mut [u8]) -> Fault {
 }
 
 // The way there, and Z and ZA held to the stored end.
-fn there(sweep: &[u8], z: &mut [u8], za: &mut [u8], z_due: &mut [u8], za_due: &mut [u8]) -> Fault {
+fn there(
+    settings: Settings,
+    sweep: &[u8],
+    z: &mut [u8],
+    za: &mut [u8],
+    z_due: &mut [u8],
+    za_due: &mut [u8],
+) -> Fault {
     fill_start(sweep, z, za);
-    let fault = go_all(sweep, z, za);
+    let fault = go_all(settings, sweep, z, za);
     if is_fault(fault) {
         return fault;
     }
@@ -276,8 +269,15 @@ fn there(sweep: &[u8], z: &mut [u8], za: &mut [u8], z_due: &mut [u8], za_due: &m
 }
 
 // The way back, and Z and ZA held to the start, which is made again in the due rooms.
-fn back(sweep: &[u8], z: &mut [u8], za: &mut [u8], z_due: &mut [u8], za_due: &mut [u8]) -> Fault {
-    let fault = undo_all(sweep, z, za);
+fn back(
+    settings: Settings,
+    sweep: &[u8],
+    z: &mut [u8],
+    za: &mut [u8],
+    z_due: &mut [u8],
+    za_due: &mut [u8],
+) -> Fault {
+    let fault = undo_all(settings, sweep, z, za);
     if is_fault(fault) {
         return fault;
     }
@@ -312,6 +312,7 @@ fn print_fault(way: &[u8], fault: Fault) {
 
 // Goes there and back, and says how it went. Answers how many sweeps are wrong: 0 or 1.
 fn wrong_there_or_back(
+    settings: Settings,
     sweep: &[u8],
     z: &mut [u8],
     za: &mut [u8],
@@ -320,53 +321,18 @@ fn wrong_there_or_back(
 ) -> usize
     ensures { λ r. ⌜ r < 2 ⌝ }
 {
-    let fault_there = there(sweep, z, za, z_due, za_due);
+    let fault_there = there(settings, sweep, z, za, z_due, za_due);
     if is_fault(fault_there) {
         print_fault(b"there", fault_there);
         return 1;
     }
-    let fault_back = back(sweep, z, za, z_due, za_due);
+    let fault_back = back(settings, sweep, z, za, z_due, za_due);
     if is_fault(fault_back) {
         print_fault(b"back", fault_back);
         return 1;
     }
     io::write_all(1, b", there and back\n");
     0
-}
-
-// As much of a length as the room has. With less than all of it, execute refuses every word.
-fn within(room: &[u8], length: usize) -> usize
-    ensures { λ r. do ⌜ r ≤ (← ⟦room.len()⟧ .entry) ⌝ }
-{
-    if length > room.len() {
-        room.len()
-    } else {
-        length
-    }
-}
-
-// Lends parts of the rooms that are as long as Z and ZA are at the VL.
-fn wrong_in_rooms(
-    sweep: &[u8],
-    vl: u32,
-    z_room: &mut [u8],
-    za_room: &mut [u8],
-    z_due_room: &mut [u8],
-    za_due_room: &mut [u8],
-) -> usize
-    ensures { λ r. ⌜ r < 2 ⌝ }
-{
-    let z = within(z_room, z_length(vl));
-    let za = within(za_room, za_length(vl));
-    let z_due = within(z_due_room, z_length(vl));
-    let za_due = within(za_due_room, za_length(vl));
-    wrong_there_or_back(
-        sweep,
-        &mut z_room[..z],
-        &mut za_room[..za],
-        &mut z_due_room[..z_due],
-        &mut za_due_room[..za_due],
-    )
 }
 
 // The sum of what is stored in a column of the words' lines.
@@ -383,64 +349,95 @@ fn sum_of(sweep: &[u8], column: usize) -> u64
     sum
 }
 
-// Prints a sweep's line, and answers how many sweeps are wrong: 0 or 1. Where there is a fault, the sums are those that
-// are due.
+// Says how a sweep goes that is all there. A sweep of no words makes no call of the library, so it shows nothing, and is
+// wrong. Where there is a fault, the sums are those that are due. Answers how many sweeps are wrong: 0 or 1.
 fn wrong_in(
+    settings: Settings,
     sweep: &[u8],
-    number: usize,
     z_room: &mut [u8],
     za_room: &mut [u8],
     z_due_room: &mut [u8],
     za_due_room: &mut [u8],
 ) -> usize
+    requires { ⌜ validSettings settings ≡ true ⌝ }
+    requires { do ⌜ ((← ⟦z_room.len()⟧) ≡ 2048) × ((← ⟦za_room.len()⟧) ≡ 4096) ⌝ }
+    requires { do ⌜ ((← ⟦z_due_room.len()⟧) ≡ 2048) × ((← ⟦za_due_room.len()⟧) ≡ 4096) ⌝ }
     ensures { λ r. ⌜ r < 2 ⌝ }
 {
-    let vl = vl_of(sweep);
-    let count = count_of(sweep);
-    print_number(b"sweep ", number as u64);
-    print_number(b": VL ", vl as u64);
-    print_number(b", words ", count as u64);
-    if columns_of(vl, count) > sweep.len() / stored::COLUMN {
-        io::write_all(1, b", wrong: the file ends before it does\n");
-        return 1;
-    }
-    if z_length(vl) == 0 {
-        io::write_all(1, b", wrong: there is no such VL\n");
+    if count_of(sweep) == 0 {
+        io::write_all(1, b", wrong: it has no words\n");
         return 1;
     }
     print_number(b", toggled ", sum_of(sweep, TOGGLED));
     print_number(b", written ", sum_of(sweep, WRITTEN));
-    wrong_in_rooms(sweep, vl, z_room, za_room, z_due_room, za_due_room)
+    let z = z_length(settings);
+    let za = za_length(settings);
+    wrong_there_or_back(
+        settings,
+        sweep,
+        &mut z_room[..z],
+        &mut za_room[..za],
+        &mut z_due_room[..z],
+        &mut za_due_room[..za],
+    )
 }
 
-// How far a sweep goes in the list.
-struct Extent {
+// What a sweep adds to the counts, and how many bytes of the list are its own.
+struct Checked {
     words: usize,
     bytes: usize,
+    wrong: usize,
 }
 
-// What follows a sweep without an end or without a VL is not known, so it goes on to the end of the list, and has no
-// words.
-fn extent_of(sweep: &[u8]) -> Extent
-    requires { do ⌜ 0 < (← ⟦sweep.len()⟧) ⌝ }
-    ensures { λ r. do ⌜ (0 < r .bytes) × (r .bytes ≤ (← ⟦sweep.len()⟧ .entry)) × (r .words ≤ r .bytes) ⌝ }
+// What follows a sweep that is not all there is not known, so it goes on to the end of the list, and has no words.
+fn not_there(list: &[u8], why: &[u8]) -> Checked
+    ensures { λ r. do ⌜ (r .bytes ≡ (← ⟦list.len()⟧ .entry)) × (r .words ≡ 0) × (r .wrong ≡ 1) ⌝ }
 {
-    let vl = vl_of(sweep);
-    let count = count_of(sweep);
-    let columns = columns_of(vl, count);
-    let to_the_end = Extent {
+    io::write_all(1, why);
+    Checked {
         words: 0,
-        bytes: sweep.len(),
-    };
-    if columns > sweep.len() / stored::COLUMN {
-        return to_the_end;
+        bytes: list.len(),
+        wrong: 1,
     }
-    if z_length(vl) == 0 {
-        return to_the_end;
+}
+
+fn print_head(number: usize, vl: u32, count: u32) {
+    print_number(b"sweep ", number as u64);
+    print_number(b": VL ", vl as u64);
+    print_number(b", words ", count as u64);
+}
+
+// Checks the sweep with which the list begins, and prints its line.
+fn check_sweep(
+    list: &[u8],
+    number: usize,
+    z_room: &mut [u8],
+    za_room: &mut [u8],
+    z_due_room: &mut [u8],
+    za_due_room: &mut [u8],
+) -> Checked
+    requires { do ⌜ 0 < (← ⟦list.len()⟧) ⌝ }
+    requires { do ⌜ ((← ⟦z_room.len()⟧) ≡ 2048) × ((← ⟦za_room.len()⟧) ≡ 4096) ⌝ }
+    requires { do ⌜ ((← ⟦z_due_room.len()⟧) ≡ 2048) × ((← ⟦za_due_room.len()⟧) ≡ 4096) ⌝ }
+    ensures { λ r. do ⌜ (0 < r .bytes) × (r .bytes ≤ (← ⟦list.len()⟧ .entry)) × (r .words ≤ r .bytes) × (r .wrong < 2) ⌝ }
+{
+    let settings = stored::settings_of(list);
+    let count = count_of(list);
+    print_head(number, settings.vl, count);
+    if !settings.valid() {
+        return not_there(list, b", wrong: the settings are not valid\n");
     }
-    Extent {
+    let columns = columns_of(settings, count);
+    if columns > list.len() / stored::COLUMN {
+        return not_there(list, b", wrong: the file ends before it does\n");
+    }
+    let bytes = stored::COLUMN * columns;
+    let sweep = &list[..bytes];
+    let wrong = wrong_in(settings, sweep, z_room, za_room, z_due_room, za_due_room);
+    Checked {
         words: count as usize,
-        bytes: stored::COLUMN * columns,
+        bytes: bytes,
+        wrong: wrong,
     }
 }
 
@@ -458,14 +455,17 @@ fn check_list(
     za_room: &mut [u8],
     z_due_room: &mut [u8],
     za_due_room: &mut [u8],
-) {
+)
+    requires { do ⌜ ((← ⟦z_room.len()⟧) ≡ 2048) × ((← ⟦za_room.len()⟧) ≡ 4096) ⌝ }
+    requires { do ⌜ ((← ⟦z_due_room.len()⟧) ≡ 2048) × ((← ⟦za_due_room.len()⟧) ≡ 4096) ⌝ }
+{
     let mut at = 0;
     let mut sweeps = 0;
     let mut words = 0;
     let mut wrong = 0;
     while at < list.len() {
         sweeps += 1;
-        wrong += wrong_in(
+        let checked = check_sweep(
             &list[at..],
             sweeps,
             z_room,
@@ -473,9 +473,9 @@ fn check_list(
             z_due_room,
             za_due_room,
         );
-        let extent = extent_of(&list[at..]);
-        words += extent.words;
-        at += extent.bytes;
+        words += checked.words;
+        at += checked.bytes;
+        wrong += checked.wrong;
     }
     print_counts(sweeps, words, wrong);
 }

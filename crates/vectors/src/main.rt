@@ -19,32 +19,9 @@ fn byte_at(line: &[u8], at: usize) -> u8 {
     if at < line.len() { line[at] } else { 0 }
 }
 
-// The value of the digit at a place: `0` to `9` are the bytes 48 to 57, and `A` to `F` 65 to 70.
-fn digit_at(line: &[u8], at: usize) -> u32
-    ensures { λ r. ⌜ r < 16 ⌝ }
-{
-    let byte = byte_at(line, at) as u32;
-    if byte < 64 {
-        byte % 16
-    } else {
-        (byte + 9) % 16
-    }
-}
-
-// Four digits of the word, from place 0 or 4.
-fn half_at(line: &[u8], at: usize) -> u32
-    requires { ⌜ at ≤ 4 ⌝ }
-    ensures { λ r. ⌜ r < 65536 ⌝ }
-{
-    digit_at(line, at) * 4096
-        + digit_at(line, at + 1) * 256
-        + digit_at(line, at + 2) * 16
-        + digit_at(line, at + 3)
-}
-
-// The word that the line is about.
+// The word that the line is about, in the one column that is like those of the stored cases.
 fn word_of(line: &[u8]) -> u32 {
-    half_at(line, 0) * 65536 + half_at(line, 4)
+    stored::number_of(line, 0)
 }
 
 // One of the line's twelve numbers: 0 is the family, and the fields follow in document 01's order.
@@ -52,7 +29,7 @@ fn number_of(line: &[u8], column: usize) -> u32
     requires { ⌜ column < 12 ⌝ }
 {
     let at = 9 + 3 * column;
-    digit_at(line, at) * 10 + digit_at(line, at + 1)
+    stored::digit(byte_at(line, at)) * 10 + stored::digit(byte_at(line, at + 1))
 }
 
 fn family_of(line: &[u8]) -> u32 {

@@ -23,38 +23,26 @@ loop-holds c = search needs
 add-sweeps : tie.Need-add-sweeps Inv-loop μ-loop
 add-sweeps c = search needs
 
-sub-wrong-in : tie.Need-sub-wrong-in Inv-loop μ-loop
-sub-wrong-in c = search needs
+sub-check-sweep : tie.Need-sub-check-sweep Inv-loop μ-loop
+sub-check-sweep c = search needs
 
-part-wrong-in-start : tie.Need-part-wrong-in-start Inv-loop μ-loop
-part-wrong-in-start c = search needs
+part-check-sweep-start : tie.Need-part-check-sweep-start Inv-loop μ-loop
+part-check-sweep-start c = search needs
 
-part-wrong-in-end : tie.Need-part-wrong-in-end Inv-loop μ-loop
-part-wrong-in-end c = search needs
+part-check-sweep-end : tie.Need-part-check-sweep-end Inv-loop μ-loop
+part-check-sweep-end c = search needs
 
-wrong-in-requires : tie.Need-wrong-in-requires Inv-loop μ-loop
-wrong-in-requires c κs = search needs
-
-add-wrong : tie.Need-add-wrong Inv-loop μ-loop
-add-wrong c = search needs
-
-sub-extent-of : tie.Need-sub-extent-of Inv-loop μ-loop
-sub-extent-of c = search needs
-
-part-extent-of-start : tie.Need-part-extent-of-start Inv-loop μ-loop
-part-extent-of-start c = search needs
-
-part-extent-of-end : tie.Need-part-extent-of-end Inv-loop μ-loop
-part-extent-of-end c = search needs
-
-extent-of-requires : tie.Need-extent-of-requires Inv-loop μ-loop
-extent-of-requires c κs = search needs
+check-sweep-requires : tie.Need-check-sweep-requires Inv-loop μ-loop
+check-sweep-requires c κs = search needs
 
 add-words : tie.Need-add-words Inv-loop μ-loop
 add-words c = search needs
 
 add-at : tie.Need-add-at Inv-loop μ-loop
 add-at c = search needs
+
+add-wrong : tie.Need-add-wrong Inv-loop μ-loop
+add-wrong c = search needs
 
 loop-less : tie.Need-loop-less Inv-loop μ-loop
 loop-less c = search needs
@@ -88,17 +76,13 @@ check-list-spec =
     μ-loop
     loop-holds
     add-sweeps
-    sub-wrong-in
-    part-wrong-in-start
-    part-wrong-in-end
-    wrong-in-requires
-    add-wrong
-    sub-extent-of
-    part-extent-of-start
-    part-extent-of-end
-    extent-of-requires
+    sub-check-sweep
+    part-check-sweep-start
+    part-check-sweep-end
+    check-sweep-requires
     add-words
     add-at
+    add-wrong
     loop-less
     loop-again
     print-counts-requires

@@ -7,10 +7,10 @@ use Rattle.sweeps.proofs.go_all.Statement.{statement}
 use Rattle.sweeps.proofs.go_all.Tie as tie
 
 abbrev Inv-loop : tie.InvT-loop
-Inv-loop sweep z₀ za₀ count i₀ z za i = (i ≤ count) × (length z ≡ length z₀) × (length za ≡ length za₀)
+Inv-loop settings sweep z₀ za₀ count i₀ z za i = (i ≤ count) × (length z ≡ length z₀) × (length za ≡ length za₀)
 
 abbrev μ-loop : tie.MeasureT-loop
-μ-loop sweep z₀ za₀ count i₀ z za i = count - i
+μ-loop settings sweep z₀ za₀ count i₀ z za i = count - i
 
 count-of-requires : tie.Need-count-of-requires Inv-loop μ-loop
 count-of-requires c κs = search needs

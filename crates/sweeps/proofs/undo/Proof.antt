@@ -1,10 +1,10 @@
--- `sweeps::undo` meets its contract: what `partner` and `execute` ensure, by the laws of machine's Sweep.antt. Assumes nothing.
-use native.Mathlib.Omega.{arith}
-use mathlib.Core.Path.{sym, ap, _∙_}
+-- `sweeps::undo` meets its contract: it makes the two calls that machine's Calls.antt asks of a caller. Assumes nothing.
+use mathlib.Core.Path.{refl, sym, ap, _∙_}
 use borrow.Author.Needs.{needs}
-use Rattle.settings.proofs.Refusals.{refusal-not-0}
 use Rattle.words.specs.Partner.{partneredSays}
-use Rattle.machine.proofs.Sweep.{undo-word, undo-refused}
+use Rattle.words.specs.declared.Partnered.the-variants.{Word, Refused}
+use Rattle.machine.specs.Calls.{UndoCalls}
+use Rattle.machine.proofs.Calls.{undo-says}
 use Rattle.sweeps.proofs.undo.Statement.{statement}
 use Rattle.sweeps.proofs.undo.Tie as tie
 
@@ -32,17 +32,16 @@ returns c =
     let m = e .before .before .before .before in
     let p = m .before .before in
     let s = p .before .before .before in
-    e .execute .ensures
-    ∙ undo-word (s .args .settings) (s .args .word) (s .args .z .now) (s .args .za .now) _ (sym (ap partneredSays (m .partner2 .given .1)) ∙ p .partner .ensures)
+    undo-says (s .args .settings) (s .args .word) (s .args .z .now) (s .args .za .now) (e .execute .result) (e .execute .last .1 .1 .0) (e .execute .last .1 .1 .1 .0)
+    (record { asked = Word _; promised = sym (ap partneredSays (m .partner2 .given .1)) ∙ p .partner .ensures; followed = e .execute .ensures })
 
 returns-2 : tie.Need-returns-2
 returns-2 c =
     let m = c .before in
     let p = m .before .before in
     let s = p .before .before .before in
-    undo-refused (s .args .settings) (s .args .word) (s .args .z .now) (s .args .za .now) _
-    (sym (ap partneredSays (m .refusal .given .1)) ∙ p .partner .ensures)
-    (λ e. omega (arith, refusal-not-0 (m .refusal .given .0 .0)))
+    undo-says (s .args .settings) (s .args .word) (s .args .z .now) (s .args .za .now) _ _ _
+    (record { asked = Refused (m .refusal .given .0 .0); promised = sym (ap partneredSays (m .refusal .given .1)) ∙ p .partner .ensures; followed = (refl, refl, refl) })
 
 pub undo-spec : {M : Type 1} → statement M
 undo-spec =

@@ -6,13 +6,10 @@ use Rattle.sweeps.proofs.undo_all.Statement.{statement}
 use Rattle.sweeps.proofs.undo_all.Tie as tie
 
 abbrev Inv-loop : tie.InvT-loop
-Inv-loop sweep z₀ za₀ settings i₀ z za i = (length z ≡ length z₀) × (length za ≡ length za₀)
+Inv-loop settings sweep z₀ za₀ i₀ z za i = (length z ≡ length z₀) × (length za ≡ length za₀)
 
 abbrev μ-loop : tie.MeasureT-loop
-μ-loop sweep z₀ za₀ settings i₀ z za i = i
-
-settings-of-requires : tie.Need-settings-of-requires Inv-loop μ-loop
-settings-of-requires c κs = search needs
+μ-loop settings sweep z₀ za₀ i₀ z za i = i
 
 count-of-requires : tie.Need-count-of-requires Inv-loop μ-loop
 count-of-requires c κs = search needs
@@ -65,7 +62,6 @@ undo-all-spec =
     (tie.spec
     Inv-loop
     μ-loop
-    settings-of-requires
     count-of-requires
     loop-holds
     sub-i

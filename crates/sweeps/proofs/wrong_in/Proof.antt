@@ -1,34 +1,46 @@
--- `sweeps::wrong_in_rooms` meets its contract, and keeps the lengths of the rooms. The parts that it lends are as long as it says, since
--- `within` gives no more than a room has. Assumes nothing.
+-- `sweeps::wrong_in` meets its contract, and keeps the lengths of the rooms. The parts that it lends are as long as it says, since Z and ZA
+-- are no longer than the rooms. Assumes nothing.
 use mathlib.Core.Path.{sym}
 use lib.Seq.{length-take-le}
 use borrow.Author.Needs.{needs}
-use Rattle.sweeps.proofs.wrong_in_rooms.Statement.{statement}
-use Rattle.sweeps.proofs.wrong_in_rooms.Tie as tie
+use Rattle.sweeps.proofs.wrong_in.Statement.{statement}
+use Rattle.sweeps.proofs.wrong_in.Tie as tie
+
+count-of-requires : tie.Need-count-of-requires
+count-of-requires c κs = search needs
+
+slice-aggregate-write-all : tie.Need-slice-aggregate-write-all
+slice-aggregate-write-all c = search needs
+
+write-all-requires : tie.Need-write-all-requires
+write-all-requires c κs = search needs
+
+returns : tie.Need-returns
+returns c = search needs
+
+slice-aggregate-print-number : tie.Need-slice-aggregate-print-number
+slice-aggregate-print-number c = search needs
+
+sum-of-requires : tie.Need-sum-of-requires
+sum-of-requires c κs = search needs
+
+print-number-requires : tie.Need-print-number-requires
+print-number-requires c κs = search needs
+
+slice-aggregate-print-number-2 : tie.Need-slice-aggregate-print-number-2
+slice-aggregate-print-number-2 c = search needs
+
+sum-of-requires-2 : tie.Need-sum-of-requires-2
+sum-of-requires-2 c κs = search needs
+
+print-number-requires-2 : tie.Need-print-number-requires-2
+print-number-requires-2 c κs = search needs
 
 z-length-requires : tie.Need-z-length-requires
 z-length-requires c κs = search needs
 
-within-requires : tie.Need-within-requires
-within-requires c κs = search needs
-
 za-length-requires : tie.Need-za-length-requires
 za-length-requires c κs = search needs
-
-within-requires-2 : tie.Need-within-requires-2
-within-requires-2 c κs = search needs
-
-z-length-requires-2 : tie.Need-z-length-requires-2
-z-length-requires-2 c κs = search needs
-
-within-requires-3 : tie.Need-within-requires-3
-within-requires-3 c κs = search needs
-
-za-length-requires-2 : tie.Need-za-length-requires-2
-za-length-requires-2 c κs = search needs
-
-within-requires-4 : tie.Need-within-requires-4
-within-requires-4 c κs = search needs
 
 slice-relend-prefix-wrong-there-or-back : tie.Need-slice-relend-prefix-wrong-there-or-back
 slice-relend-prefix-wrong-there-or-back c = search needs
@@ -69,21 +81,25 @@ same-length-3 c = search needs
 same-length-4 : tie.Need-same-length-4
 same-length-4 c = search needs
 
-returns : tie.Need-returns
-returns c = search needs
+returns-2 : tie.Need-returns-2
+returns-2 c = search needs
 
-pub wrong-in-rooms-spec : {M : Type 1} → statement M
-wrong-in-rooms-spec =
+pub wrong-in-spec : {M : Type 1} → statement M
+wrong-in-spec =
     tie.close
     (tie.spec
+    count-of-requires
+    slice-aggregate-write-all
+    write-all-requires
+    returns
+    slice-aggregate-print-number
+    sum-of-requires
+    print-number-requires
+    slice-aggregate-print-number-2
+    sum-of-requires-2
+    print-number-requires-2
     z-length-requires
-    within-requires
     za-length-requires
-    within-requires-2
-    z-length-requires-2
-    within-requires-3
-    za-length-requires-2
-    within-requires-4
     slice-relend-prefix-wrong-there-or-back
     slice-aggregate-wrong-there-or-back
     slice-relend-prefix-wrong-there-or-back-2
@@ -97,4 +113,4 @@ wrong-in-rooms-spec =
     same-length-2
     same-length-3
     same-length-4
-    returns)
+    returns-2)
