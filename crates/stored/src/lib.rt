@@ -1,5 +1,5 @@
 // Reads the columns of the stored cases and sweeps, and makes contents from a kind and a seed. second/README.md has the
-// columns and the kinds of contents.
+// columns and the kinds of contents. The lines that `vectors` reads begin with such a column.
 ghost use Prim.Native.Nat.{_+_, _≤_, _<_};
 use settings::Features;
 use settings::Modes;

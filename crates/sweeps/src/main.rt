@@ -96,7 +96,7 @@ fn of_word(sweep: &[u8], i: u32, column: usize) -> u32
 }
 
 // Byte i of those that are stored from a column on, the first in the column's first two digits. The column is below
-// 2^63, and a quarter of i below 2^62, so their sum is a column too.
+// 2^63 and a quarter of i below 2^62, so that the sum fits.
 fn stored_byte(sweep: &[u8], column: usize, i: usize) -> u8
     requires { ⌜ column < 9223372036854775808 ⌝ }
 {
@@ -349,8 +349,8 @@ fn sum_of(sweep: &[u8], column: usize) -> u64
     sum
 }
 
-// Says how a sweep goes that is all there. A sweep of no words makes no call of the library, so it shows nothing, and is
-// wrong. Where there is a fault, the sums are those that are due. Answers how many sweeps are wrong: 0 or 1.
+// Ends the line of a sweep that is all there, and answers how many sweeps are wrong: 0 or 1. A sweep of no words makes
+// no call of the library, and shows nothing. Where there is a fault, the sums are those that are due.
 fn wrong_in(
     settings: Settings,
     sweep: &[u8],
@@ -389,8 +389,8 @@ struct Checked {
     wrong: usize,
 }
 
-// What follows a sweep that is not all there is not known, so it goes on to the end of the list, and has no words.
-fn not_there(list: &[u8], why: &[u8]) -> Checked
+// What follows a sweep that cannot be checked is not known, so it goes on to the end of the list, and has no words.
+fn not_checked(list: &[u8], why: &[u8]) -> Checked
     ensures { λ r. do ⌜ (r .bytes ≡ (← ⟦list.len()⟧ .entry)) × (r .words ≡ 0) × (r .wrong ≡ 1) ⌝ }
 {
     io::write_all(1, why);
@@ -407,7 +407,7 @@ fn print_head(number: usize, vl: u32, count: u32) {
     print_number(b", words ", count as u64);
 }
 
-// Checks the sweep with which the list begins, and prints its line.
+// Prints the line of the sweep with which the list begins. Its settings say how long it is, so they are tested first.
 fn check_sweep(
     list: &[u8],
     number: usize,
@@ -425,11 +425,11 @@ fn check_sweep(
     let count = count_of(list);
     print_head(number, settings.vl, count);
     if !settings.valid() {
-        return not_there(list, b", wrong: the settings are not valid\n");
+        return not_checked(list, b", wrong: the settings are not valid\n");
     }
     let columns = columns_of(settings, count);
     if columns > list.len() / stored::COLUMN {
-        return not_there(list, b", wrong: the file ends before it does\n");
+        return not_checked(list, b", wrong: the file ends before it does\n");
     }
     let bytes = stored::COLUMN * columns;
     let sweep = &list[..bytes];

@@ -19,7 +19,7 @@ fn byte_at(line: &[u8], at: usize) -> u8 {
     if at < line.len() { line[at] } else { 0 }
 }
 
-// The word that the line is about, in the one column that is like those of the stored cases.
+// The word that the line is about.
 fn word_of(line: &[u8]) -> u32 {
     stored::number_of(line, 0)
 }

@@ -2,8 +2,8 @@
 -- has. Assumes nothing.
 use mathlib.Core.Path.{sym, _∙_}
 use lib.Seq.{length-take-le}
-use Rattle.laws.proofs.Tests.{upheld}
 use borrow.Author.Needs.{needs}
+use Rattle.laws.proofs.Tests.{upheld}
 use Rattle.sweeps.proofs.check_sweep.Statement.{statement}
 use Rattle.sweeps.proofs.check_sweep.Tie as tie
 
@@ -19,11 +19,11 @@ print-head-requires c κs = search needs
 valid-requires : tie.Need-valid-requires
 valid-requires c κs = search needs
 
-slice-aggregate-not-there : tie.Need-slice-aggregate-not-there
-slice-aggregate-not-there c = search needs
+slice-aggregate-not-checked : tie.Need-slice-aggregate-not-checked
+slice-aggregate-not-checked c = search needs
 
-not-there-requires : tie.Need-not-there-requires
-not-there-requires c κs = search needs
+not-checked-requires : tie.Need-not-checked-requires
+not-checked-requires c κs = search needs
 
 returns : tie.Need-returns
 returns c = search needs
@@ -31,11 +31,11 @@ returns c = search needs
 columns-of-requires : tie.Need-columns-of-requires
 columns-of-requires c κs = sym (c .before .valid .ensures) ∙ upheld _ (c .if1 .left)
 
-slice-aggregate-not-there-2 : tie.Need-slice-aggregate-not-there-2
-slice-aggregate-not-there-2 c = search needs
+slice-aggregate-not-checked-2 : tie.Need-slice-aggregate-not-checked-2
+slice-aggregate-not-checked-2 c = search needs
 
-not-there-requires-2 : tie.Need-not-there-requires-2
-not-there-requires-2 c κs = search needs
+not-checked-requires-2 : tie.Need-not-checked-requires-2
+not-checked-requires-2 c κs = search needs
 
 returns-2 : tie.Need-returns-2
 returns-2 c = search needs
@@ -77,12 +77,12 @@ check-sweep-spec =
     count-of-requires
     print-head-requires
     valid-requires
-    slice-aggregate-not-there
-    not-there-requires
+    slice-aggregate-not-checked
+    not-checked-requires
     returns
     columns-of-requires
-    slice-aggregate-not-there-2
-    not-there-requires-2
+    slice-aggregate-not-checked-2
+    not-checked-requires-2
     returns-2
     mul-bytes
     slice-aggregate-sweep

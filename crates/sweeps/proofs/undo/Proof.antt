@@ -2,8 +2,9 @@
 use mathlib.Core.Path.{refl, sym, ap, _∙_}
 use borrow.Author.Needs.{needs}
 use Rattle.words.specs.Partner.{partneredSays}
-use Rattle.words.specs.declared.Partnered.the-variants.{Word, Refused}
+use Rattle.words.specs.declared.Partnered.the-variants as partnered
 use Rattle.machine.specs.Calls.{UndoCalls}
+use Rattle.machine.specs.declared.Executed.the-variants as executed
 use Rattle.machine.proofs.Calls.{undo-says}
 use Rattle.sweeps.proofs.undo.Statement.{statement}
 use Rattle.sweeps.proofs.undo.Tie as tie
@@ -32,16 +33,23 @@ returns c =
     let m = e .before .before .before .before in
     let p = m .before .before in
     let s = p .before .before .before in
-    undo-says (s .args .settings) (s .args .word) (s .args .z .now) (s .args .za .now) (e .execute .result) (e .execute .last .1 .1 .0) (e .execute .last .1 .1 .1 .0)
-    (record { asked = Word _; promised = sym (ap partneredSays (m .partner2 .given .1)) ∙ p .partner .ensures; followed = e .execute .ensures })
+    let z′ = e .execute .last .1 .1 .0 in
+    let za′ = e .execute .last .1 .1 .1 .0 in
+    let calls : UndoCalls (s .args .settings) (s .args .word) (s .args .z .now) (s .args .za .now) (e .execute .result) z′ za′ =
+    record { asked = partnered.Word _; promised = sym (ap partneredSays (m .partner2 .given .1)) ∙ p .partner .ensures; followed = e .execute .ensures } in
+    undo-says _ _ _ _ _ _ _ calls
 
 returns-2 : tie.Need-returns-2
 returns-2 c =
     let m = c .before in
     let p = m .before .before in
     let s = p .before .before .before in
-    undo-says (s .args .settings) (s .args .word) (s .args .z .now) (s .args .za .now) _ _ _
-    (record { asked = Refused (m .refusal .given .0 .0); promised = sym (ap partneredSays (m .refusal .given .1)) ∙ p .partner .ensures; followed = (refl, refl, refl) })
+    let z = s .args .z .now in
+    let za = s .args .za .now in
+    let q = m .refusal .given .0 .0 in
+    let calls : UndoCalls (s .args .settings) (s .args .word) z za (executed.Refused q) z za =
+    record { asked = partnered.Refused q; promised = sym (ap partneredSays (m .refusal .given .1)) ∙ p .partner .ensures; followed = (refl, refl, refl) } in
+    undo-says _ _ _ _ _ _ _ calls
 
 pub undo-spec : {M : Type 1} → statement M
 undo-spec =
