@@ -23,10 +23,15 @@ returns : tie.Need-returns
 returns c = ap (λ (k : ℕ). contentByte k (c .before .args .state) (c .before .args .at)) (sym (c .match .keys1))
 
 returns-2 : tie.Need-returns-2
-returns-2 c = c .extreme-byte .ensures ∙ ap (λ (k : ℕ). contentByte k (c .before .before .args .state) (c .before .before .args .at)) (sym (c .before .match .keys2))
+returns-2 c =
+    c .extreme-byte .ensures
+    ∙ ap (λ (k : ℕ). contentByte k (c .before .before .args .state) (c .before .before .args .at)) (sym (c .before .match .keys2))
 
 returns-3 : tie.Need-returns-3
-returns-3 c = let r = c .before .match .rest in c .extreme-byte2 .ensures ∙ content-other (c .before .before .args .kind) (c .before .before .args .state) (c .before .before .args .at) (r .0 .1) (r .1)
+returns-3 c =
+    let r = c .before .match .rest in
+    c .extreme-byte2 .ensures
+    ∙ content-other (c .before .before .args .kind) (c .before .before .args .state) (c .before .before .args .at) (r .0 .1) (r .1)
 
 pub content-byte-spec : {M : Type 1} → statement M
 content-byte-spec =

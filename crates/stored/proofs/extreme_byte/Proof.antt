@@ -41,7 +41,10 @@ returns-7 : tie.Need-returns-7
 returns-7 c = c .lane-byte4 .ensures ∙ ap (λ (k : ℕ). extremeByte k (c .before .before .args .at)) (sym (c .before .match .keys7))
 
 returns-8 : tie.Need-returns-8
-returns-8 c = let r = c .match .rest in extreme-other (c .before .args .kind) (c .before .args .at) (r .0 .0 .0 .0 .0 .0 .1) (r .0 .0 .0 .0 .0 .1) (r .0 .0 .0 .0 .1) (r .0 .0 .0 .1) (r .0 .0 .1) (r .0 .1) (r .1)
+returns-8 c =
+    let r = c .match .rest in
+    extreme-other (c .before .args .kind) (c .before .args .at)
+    (r .0 .0 .0 .0 .0 .0 .1) (r .0 .0 .0 .0 .0 .1) (r .0 .0 .0 .0 .1) (r .0 .0 .0 .1) (r .0 .0 .1) (r .0 .1) (r .1)
 
 pub extreme-byte-spec : {M : Type 1} → statement M
 extreme-byte-spec =

@@ -57,7 +57,11 @@ add-result-3 : tie.Need-add-result-3
 add-result-3 c = search needs
 
 returns : tie.Need-returns
-returns c = let d3 = c .before .before in let d2 = d3 .before .before in let d1 = d2 .before .before in (half-is _ _ _ _ _ _ (d1 .digit .ensures .0) (d2 .digit2 .ensures .0) (d3 .digit3 .ensures .0) (c .digit4 .ensures .0), omega arith)
+returns c =
+    let d3 = c .before .before in
+    let d2 = d3 .before .before in
+    let d1 = d2 .before .before in
+    (half-is _ _ _ _ _ _ (d1 .digit .ensures .0) (d2 .digit2 .ensures .0) (d3 .digit3 .ensures .0) (c .digit4 .ensures .0), omega arith)
 
 pub half-at-spec : {M : Type 1} → statement M
 half-at-spec =

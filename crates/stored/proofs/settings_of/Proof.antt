@@ -35,7 +35,15 @@ number-of-requires-7 : tie.Need-number-of-requires-7
 number-of-requires-7 c κs = search needs
 
 returns : tie.Need-returns
-returns c = let n6 = c .before in let n5 = n6 .before in let n4 = n5 .before in let n3 = n4 .before in let n2 = n3 .before in let n1 = n2 .before in settings-are _ _ _ _ _ _ _ _ (n1 .number-of .ensures) (n2 .number-of2 .ensures) (n3 .number-of3 .ensures) (n4 .number-of4 .ensures) (n5 .number-of5 .ensures) (n6 .number-of6 .ensures) (c .number-of7 .ensures)
+returns c =
+    let n6 = c .before in
+    let n5 = n6 .before in
+    let n4 = n5 .before in
+    let n3 = n4 .before in
+    let n2 = n3 .before in
+    let n1 = n2 .before in
+    settings-are _ _ _ _ _ _ _ _ (n1 .number-of .ensures) (n2 .number-of2 .ensures) (n3 .number-of3 .ensures) (n4 .number-of4 .ensures)
+    (n5 .number-of5 .ensures) (n6 .number-of6 .ensures) (c .number-of7 .ensures)
 
 pub settings-of-spec : {M : Type 1} → statement M
 settings-of-spec =

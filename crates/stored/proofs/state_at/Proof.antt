@@ -10,10 +10,14 @@ next-state-requires : tie.Need-next-state-requires
 next-state-requires c κs = search needs
 
 returns : tie.Need-returns
-returns c = let x = c .before .before .args .state in c .next-state .ensures ∙ ap (λ (t : Bool). cond t (nextState x) x) (sym (c .before .if1 .taken))
+returns c =
+    let x = c .before .before .args .state in
+    c .next-state .ensures ∙ ap (λ (t : Bool). cond t (nextState x) x) (sym (c .before .if1 .taken))
 
 returns-2 : tie.Need-returns-2
-returns-2 c = let x = c .before .args .state in ap (λ (t : Bool). cond t (nextState x) x) (sym (c .if1 .left))
+returns-2 c =
+    let x = c .before .args .state in
+    ap (λ (t : Bool). cond t (nextState x) x) (sym (c .if1 .left))
 
 pub state-at-spec : {M : Type 1} → statement M
 state-at-spec = tie.close (tie.spec next-state-requires returns returns-2)
