@@ -6,11 +6,19 @@ use native.Mathlib.Omega.{arith}
 use lib.Dec.{eqb}
 use Rattle.settings.specs.Refused.{refusalNumber}
 use Rattle.settings.specs.declared.Refusal.{Refusal}
-use Rattle.settings.specs.declared.Refusal.the-variants.{BadSettings, BadLength, UnknownWord, WrongMode, NoSuchWord, NoPartner}
+use Rattle.settings.specs.declared.Refusal.the-variants.{BadSettings, BadLength, UnknownWord, WrongMode, NoSuchWord, NoPartner, ListEnds, BadNumber, TooManyWords, ExtraBytes}
 
 numbered : ℕ → Refusal
 numbered n =
-    cond (eqb n 1) BadSettings (cond (eqb n 2) BadLength (cond (eqb n 3) UnknownWord (cond (eqb n 4) WrongMode (cond (eqb n 5) NoSuchWord NoPartner))))
+    cond (eqb n 1) BadSettings
+    (cond (eqb n 2) BadLength
+    (cond (eqb n 3) UnknownWord
+    (cond (eqb n 4) WrongMode
+    (cond (eqb n 5) NoSuchWord
+    (cond (eqb n 6) NoPartner
+    (cond (eqb n 7) ListEnds
+    (cond (eqb n 8) BadNumber
+    (cond (eqb n 9) TooManyWords ExtraBytes))))))))
 
 numbered-back : (r : Refusal) → numbered (refusalNumber r) ≡ r
 unfolding numbered
@@ -20,6 +28,10 @@ numbered-back UnknownWord = refl
 numbered-back WrongMode = refl
 numbered-back NoSuchWord = refl
 numbered-back NoPartner = refl
+numbered-back ListEnds = refl
+numbered-back BadNumber = refl
+numbered-back TooManyWords = refl
+numbered-back ExtraBytes = refl
 
 pub refusal-known : (r q : Refusal) → refusalNumber r ≡ refusalNumber q → r ≡ q
 refusal-known r q e = sym (numbered-back r) ∙ ap numbered e ∙ numbered-back q
@@ -31,6 +43,10 @@ refusal-not-0 UnknownWord = omega arith
 refusal-not-0 WrongMode = omega arith
 refusal-not-0 NoSuchWord = omega arith
 refusal-not-0 NoPartner = omega arith
+refusal-not-0 ListEnds = omega arith
+refusal-not-0 BadNumber = omega arith
+refusal-not-0 TooManyWords = omega arith
+refusal-not-0 ExtraBytes = omega arith
 
 -- every answer says a number and values: a refusal does not say the number 0
 pub refused-not-0 : {A : Type 0} (r : Refusal) (x y : A) → _≡_ {A = ℕ × A} (refusalNumber r, x) (0, y) → ⊥

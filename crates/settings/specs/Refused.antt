@@ -1,7 +1,7 @@
--- Document 01, "Refusal numbers".
+-- Document 01, "Refusal numbers", and the further numbers of "The run list".
 use Prim.Native.Nat.{ℕ}
 use Rattle.settings.specs.declared.Refusal.{Refusal}
-use Rattle.settings.specs.declared.Refusal.the-variants.{BadSettings, BadLength, UnknownWord, WrongMode, NoSuchWord, NoPartner}
+use Rattle.settings.specs.declared.Refusal.the-variants.{BadSettings, BadLength, UnknownWord, WrongMode, NoSuchWord, NoPartner, ListEnds, BadNumber, TooManyWords, ExtraBytes}
 
 abbrev pub refusalNumber : Refusal → ℕ
 refusalNumber BadSettings = 1
@@ -10,3 +10,7 @@ refusalNumber UnknownWord = 3
 refusalNumber WrongMode = 4
 refusalNumber NoSuchWord = 5
 refusalNumber NoPartner = 6
+refusalNumber ListEnds = 7
+refusalNumber BadNumber = 8
+refusalNumber TooManyWords = 9
+refusalNumber ExtraBytes = 10

@@ -69,6 +69,14 @@ pub enum Refusal {
     NoSuchWord,
     // 6: the word is of family C.
     NoPartner,
+    // 7: the list ends inside a number or the Z bytes, or before one that is due.
+    ListEnds,
+    // 8: a number whose last of several groups is zero, or whose fifth byte is above 15.
+    BadNumber,
+    // 9: more words than a list may have.
+    TooManyWords,
+    // 10: bytes after the last word.
+    ExtraBytes,
 }
 
 // The number that document 01 gives the refusal.
@@ -82,6 +90,10 @@ pub fn refusal_number(refusal: Refusal) -> u32
         Refusal::WrongMode => 4,
         Refusal::NoSuchWord => 5,
         Refusal::NoPartner => 6,
+        Refusal::ListEnds => 7,
+        Refusal::BadNumber => 8,
+        Refusal::TooManyWords => 9,
+        Refusal::ExtraBytes => 10,
     }
 }
 
