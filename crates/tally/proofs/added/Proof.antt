@@ -1,0 +1,17 @@
+-- `tally::added` meets its contract: the sums fit, and are those of the definition. Assumes nothing.
+use mathlib.Core.Path.{refl}
+use borrow.Author.Needs.{needs}
+use Rattle.tally.proofs.added.Statement.{statement}
+use Rattle.tally.proofs.added.Tie as tie
+
+add-toggled : tie.Need-add-t4
+add-toggled c = search needs
+
+add-written : tie.Need-add-t5
+add-written c = search needs
+
+returns : tie.Need-returns
+returns c = refl
+
+pub added-spec : {M : Type 1} → statement M
+added-spec = tie.close (tie.spec add-toggled add-written returns)

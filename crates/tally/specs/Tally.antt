@@ -1,0 +1,7 @@
+-- Document 01, "The run list": a running tally is brought up to date by each word.
+use Prim.Native.Nat.{ℕ, _+_}
+use Rattle.tally.specs.declared.Tally.{Tally}
+
+-- the tally after one more word, of which so many bits toggled and so many were written
+abbrev pub plus : Tally → ℕ → ℕ → Tally
+plus tally toggled written = record { toggled = tally .toggled + toggled; written = tally .written + written }
