@@ -1,4 +1,4 @@
--- Document 01, "Lines to try on the bench": the rows marked P, as one table, and one statement that each answer is what the definitions give.
+-- Document 01, "Lines to try on the bench": the rows marked P and row 14, as one table, and one statement: each answer is what the definitions give.
 use Prim.Native.Nat.{ℕ, zero, suc}
 use Prim.Native.String.{String}
 use mathlib.Core.Path.{_≡_, refl}
@@ -17,6 +17,7 @@ use Rattle.elements.specs.Elements.{elementAt, element, lowBytes, vector}
 use Rattle.elements.specs.Files.{vectorAt, laid, renewed}
 use Rattle.lanes.specs.Lane.{SInt, Int, low, product, accumulate, laneStep, clamp, SignedSat, satStep, step}
 use Rattle.bits.specs.Bits.{overBits, overBytes, toggled}
+use Rattle.rate.specs.Rate.{percentOf}
 use Rattle.recipes.specs.Recipe.{recipeOf}
 use Rattle.recipes.specs.declared.Recipe.{Recipe}
 use Rattle.recipes.specs.Element.{newElement, newBytes}
@@ -33,17 +34,20 @@ pub data Given : Type 0 where
   lane : ℕ → ℕ → ℕ → ℕ → ℕ → Given
   -- a word of ZA, the features and W8, run with modes 3
   array : ℕ → ℕ → ℕ → Given
+  -- so many bits toggled, of so many written
+  share : ℕ → ℕ → Given
 
 -- what a row answers
 pub data Answer : Type 0 where
   refused : ℕ → Answer
   fields : Fields → Answer
-  -- the destination's lanes, toggled and written
-  lanes : List ℕ → ℕ → ℕ → Answer
+  -- the destination's lanes, toggled, written and percent
+  lanes : List ℕ → ℕ → ℕ → ℕ → Answer
   -- one lane, as its bits and as a signed number
   onelane : ℕ → ℤ → Answer
   -- the vectors of ZA that the word changed
   vectors : List ℕ → Answer
+  percent : ℕ → Answer
 
 -- VL is 128, and modes and select registers are 0, unless said
 abbrev pub benchWith : ℕ → ℕ → ℕ → Settings
@@ -68,7 +72,8 @@ fieldsOf w features = decodePaper (bench features) w .1
 
 -- register 0 has eight lanes of 16 bits
 abbrev pub lanesAnswer : Outcome → Answer
-lanesAnswer o = lanes (map (element 2 (o .z)) (0 ∷ 1 ∷ 2 ∷ 3 ∷ 4 ∷ 5 ∷ 6 ∷ 7 ∷ [])) (o .toggled) (o .written)
+lanesAnswer o =
+    lanes (map (element 2 (o .z)) (0 ∷ 1 ∷ 2 ∷ 3 ∷ 4 ∷ 5 ∷ 6 ∷ 7 ∷ [])) (o .toggled) (o .written) (percentOf (o .toggled) (o .written))
 
 -- element 0 of the new vector, where every element of a source register is the given one
 abbrev pub laneAnswer : Recipe → ℕ → ℕ → ℕ → Answer
@@ -88,6 +93,7 @@ answerOf (word w features) = decodeAnswer (decodePaper (bench features) w .0) (d
 answerOf (onto w features x) = lanesAnswer (executePaper (bench features) w (bytes 512 x) (bytes 256 0))
 answerOf (lane w features x y a) = laneAnswer (recipeOf (fieldsOf w features .family) (fieldsOf w features) 0) a x y
 answerOf (array w features w8) = vectors (changed 16 (executePaper (benchWith features 3 w8) w (bytes 512 1) (bytes 256 0) .za))
+answerOf (share toggled written) = percent (percentOf toggled written)
 
 pub record Line : Type 0 where
   pub name : String
@@ -96,8 +102,8 @@ pub record Line : Type 0 where
 
 abbrev pub table : List Line
 table =
-    record { name = "P1"; given = onto 0x0E228020 1 0x01; answer = lanes (bytes 8 0x0102) 16 128 }
-    ∷ record { name = "P2"; given = onto 0x0E22A020 1 0x01; answer = lanes (bytes 8 0x0100) 8 128 }
+    record { name = "P1"; given = onto 0x0E228020 1 0x01; answer = lanes (bytes 8 0x0102) 16 128 12 }
+    ∷ record { name = "P2"; given = onto 0x0E22A020 1 0x01; answer = lanes (bytes 8 0x0100) 8 128 6 }
     ∷ record { name = "P3"; given = lane 0x0E228020 1 0xFF 0xFF 0; answer = onelane 0x0001 (pos 1) }
     ∷ record { name = "P4"; given = lane 0x2E228020 1 0xFF 0xFF 0; answer = onelane 0xFE01 (negsuc 510) }
     ∷ record {
@@ -123,6 +129,7 @@ table =
     }
     ∷ record { name = "P12"; given = array 0xC1A20008 12 7; answer = vectors (4 ∷ 5 ∷ 6 ∷ 7 ∷ 12 ∷ 13 ∷ 14 ∷ 15 ∷ []) }
     ∷ record { name = "P13"; given = array 0xC1E20800 12 1; answer = vectors (0 ∷ 1 ∷ 8 ∷ 9 ∷ []) }
+    ∷ record { name = "14"; given = share 1023 1024; answer = percent 99 }
     ∷ []
 
 -- the one statement: the definitions answer each row as the table does
