@@ -1,0 +1,5 @@
+pub mod Groups
+pub mod Turns
+pub mod Shortest
+pub mod Places
+pub mod Rows
