@@ -7,18 +7,18 @@ use mathlib.Core.List.{List, _∷_}
 use native.Mathlib.Omega.{arith}
 use lib.Dec.{eqb, ltb}
 use borrow.Author.Tests.{lt-ltb, le-ltb, eq-eqb, ne-eqb, ltb-true, ltb-false, eqb-true}
-use Rattle.numbers.specs.Numbers.{Got, got, short, wrong, onto, most, numeral}
+use Rattle.numbers.specs.Numbers.{got, wrong, onto, most, numeral}
 
 -- ---- the greatest byte
 
 pub fits-fifth : (k b : ℕ) → k ≡ 4 → b ≤ 15 → ltb (most k) b ≡ false
-fits-fifth k b e h = simp (eq-eqb k 4 e, le-ltb 15 b h)
+fits-fifth k b e h = simp (eq-eqb k 4 e) (le-ltb _ b (omega arith))
 
 pub fits-other : (k b : ℕ) → k ≢ 4 → b < 256 → ltb (most k) b ≡ false
-fits-other k b n h = simp (ne-eqb k 4 n, le-ltb 255 b (omega arith))
+fits-other k b n h = simp (ne-eqb k 4 n) (le-ltb _ b (omega arith))
 
 pub fifth-small : (k b : ℕ) → k ≡ 4 → ltb (most k) b ≡ false → b ≤ 15
-fifth-small k b e f = ltb-false 15 b (simp (eq-eqb k 4 e) at f)
+fifth-small k b e f = omega (arith, ltb-false _ b (simp (eq-eqb k 4 e) at f))
 
 pub other-small : (k b : ℕ) → k ≢ 4 → ltb (most k) b ≡ false → b < 256
 other-small k b n f = omega (arith, ltb-false 255 b (simp (ne-eqb k 4 n) at f))
@@ -40,6 +40,10 @@ not-zero k b h = go (eqb b 0) refl
     go : (t : Bool) → eqb b 0 ≡ t → (t && ltb 0 k) ≡ false
     go true e = le-ltb 0 k (omega (arith, h (eqb-true b 0 e)))
     go false e = refl
+
+-- a count above some number is not 0
+pub several : (n k : ℕ) → ltb n k ≡ true → 0 < k
+several n k e = omega (arith, ltb-true n k e)
 
 pub zero-last : (k b : ℕ) (s : List ℕ) → ltb (most k) b ≡ false → b ≡ 0 → 0 < k → numeral k (b ∷ s) ≡ wrong
 unfolding numeral

@@ -9,7 +9,6 @@ use lib.ListN.{length, take, drop, length-take, length-drop, drop-of-length-le}
 use lib.Seq.{drop-append-le, drop-append-seam}
 use Rattle.settings.specs.declared.Refusal.{Refusal}
 use Rattle.settings.specs.declared.Refusal.the-variants.{ListEnds, BadNumber}
-use Rattle.numbers.specs.declared.Read.{Read}
 use Rattle.numbers.specs.declared.Read.the-variants.{Number, Fault}
 use Rattle.numbers.specs.Numbers.{Got, got, short, wrong, onto, numeral, placed, numberAt, put}
 use Rattle.numbers.proofs.Groups.{fifth-last, last-group, group-follows, Front, faulty, ends, goes-on, front}
@@ -92,7 +91,7 @@ pub number-put : (before : List ℕ) (v : ℕ) (t : List ℕ) → v < 2 ^ 32 →
 unfolding numberAt
 number-put before v t h = ap (placed (length before)) (ap (numeral 0) (drop-append-seam before (put v ++ t)) ∙ read-put v t h)
 
--- where a number stands, and what it is
+-- a number stands in the list whole, in one to five bytes, and is below 2 ^ 32
 pub record Within (list : List ℕ) (at v n : ℕ) : Type 0 where
   pub past : at < n
   pub inside : n ≤ length list

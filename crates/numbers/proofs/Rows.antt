@@ -84,11 +84,11 @@ row-within list at (suc n) ws p h e =
     let count : length ws ≡ length (l .before) + 1 = ap length (l .numbers) ∙ length-append (l .before) (l .value ∷ []) in
     (omega arith, omega arith, w .inside, omega arith)
 
--- each of them is below 2 ^ 32
 each-last : (ws : List ℕ) (w : ℕ) → Each (λ x. x < 2 ^ 32) ws → w < 2 ^ 32 → Each (λ x. x < 2 ^ 32) (ws ++ w ∷ [])
 each-last [] w e h = (h, tt)
 each-last (x ∷ ws) w e h = (e .0, each-last ws w (e .1) h)
 
+-- each number of a row is below 2 ^ 32
 pub row-small : (list : List ℕ) (at n : ℕ) (ws : List ℕ) (p : ℕ) → numbersAt list at n ≡ all ws p → Each (λ w. w < 2 ^ 32) ws
 unfolding numbersAt
 row-small list at zero ws p e =
@@ -117,17 +117,17 @@ row-bad-kept list t at (suc n) vs p e =
     ⊎-elim
     (λ (f : numbersAt list at n ≡ fault vs BadNumber p). ap (more (list ++ t)) (row-bad-kept list t at n vs p f))
     (λ (f : FaultIs list (numbersAt list at n) vs BadNumber p).
-        ap (more (list ++ t)) (row-kept list t at n vs (f .place) (f .row))
-        ∙ ap (joined vs) (bad-kept list t (f .place) p (f .number)))
+    ap (more (list ++ t)) (row-kept list t at n vs (f .place) (f .row))
+    ∙ ap (joined vs) (bad-kept list t (f .place) p (f .number)))
     (fault-of list (numbersAt list at n) vs BadNumber p e)
 
--- with five bytes left for each number, bytes after the list change nothing
 far-more : (list t : List ℕ) (at n : ℕ) (m : Numbers) → at + 5 * suc n ≤ length list → numbersAt list at n ≡ m → more (list ++ t) m ≡ more list m
 far-more list t at n (all ws p) h e =
     let w = row-within list at n ws p (omega arith) e in
     ap (joined ws) (number-far list t p (omega arith))
 far-more list t at n (fault vs k p) h e = refl
 
+-- with five bytes left for each number, bytes after the list change nothing
 pub row-far : (list t : List ℕ) (at n : ℕ) → at + 5 * n ≤ length list → numbersAt (list ++ t) at n ≡ numbersAt list at n
 unfolding numbersAt
 row-far list t at zero h = refl
@@ -151,12 +151,12 @@ row-fault-within list at zero vs k p h e = let z : _≡_ {A = ℕ} 0 1 = cc in a
 row-fault-within list at (suc n) vs k p h e =
     ⊎-elim
     (λ (f : numbersAt list at n ≡ fault vs k p).
-        let r = row-fault-within list at n vs k p h f in
-        (omega arith, r .1, r .2))
+    let r = row-fault-within list at n vs k p h f in
+    (omega arith, r .1, r .2))
     (λ (f : FaultIs list (numbersAt list at n) vs k p).
-        let w = row-within list at n vs (f .place) h (f .row) in
-        let here = number-fault list (f .place) k p (f .number) .0 in
-        (omega arith, omega arith, omega arith))
+    let w = row-within list at n vs (f .place) h (f .row) in
+    let here = number-fault list (f .place) k p (f .number) .0 in
+    (omega arith, omega arith, omega arith))
     (fault-of list (numbersAt list at n) vs k p e)
 
 -- ---- the loop of read_numbers

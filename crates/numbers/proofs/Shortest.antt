@@ -86,7 +86,7 @@ read-put n t h = put-read 4 0 n t refl h (λ _. refl)
 
 -- ---- what is read was put so
 
--- the first n bytes of s are v, in at most f groups and one more, after k others
+-- the first n bytes of s are the rest of a number: v, with at most f groups before its last, after k others
 record Whole (k f : ℕ) (s : List ℕ) (v n : ℕ) : Type 0 where
   pub taken : take n s ≡ putIn f v
   pub count : n ≡ length (putIn f v)

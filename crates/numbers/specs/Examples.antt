@@ -1,7 +1,6 @@
 -- The definitions run: numbers that are read, and each fault.
-use Prim.Native.Nat.{ℕ}
 use mathlib.Core.Path.{_≡_, refl}
-use mathlib.Core.List.{List, [], _∷_}
+use mathlib.Core.List.{[], _∷_}
 use Rattle.settings.specs.declared.Refusal.the-variants.{ListEnds, BadNumber}
 use Rattle.numbers.specs.declared.Read.the-variants.{Number, Fault}
 use Rattle.numbers.specs.declared.Row.the-variants as row

@@ -49,12 +49,12 @@ numberAt list at = placed at (numeral 0 (drop at list))
 
 -- ---- the shortest form
 
--- n in at most f groups and one more
+-- n with at most f groups before its last
 unfoldable pub putIn : ℕ → ℕ → List ℕ
 putIn zero n = n ∷ []
 putIn (suc f) n = cond (ltb n 128) (n ∷ []) ((128 + n % 128) ∷ putIn f (n / 128))
 
--- a number below 2^32 has at most five
+-- a number below 2^32 has at most four
 unfoldable pub put : ℕ → List ℕ
 unfolding putIn
 put n = putIn 4 n
@@ -91,6 +91,6 @@ abbrev pub rowOf : Numbers → Row
 rowOf (all ws next) = row.Next next
 rowOf (fault ws refusal place) = row.Fault refusal place
 
--- those that were read, over the first that stood there
+-- those that were read in the first places of out, and the rest of it as it was
 abbrev pub filled : Numbers → List ℕ → List ℕ
 filled m out = valuesOf m ++ drop (length (valuesOf m)) out

@@ -13,7 +13,7 @@ pub enum Read {
 }
 
 // A number is in groups of seven bits, low group first, and a byte of 128 or more says that another group follows. The
-// place of a fault is where the number begins, or would begin; where it has no byte at all, that is the list's length.
+// place of a fault is where the number begins, or would begin: the list's length, where the list ends just before it.
 pub fn number_at(list: &[u8], at: usize) -> Read
     ensures { λ r. ⌜ r ≡ numberAt (now (list .entry)) at ⌝ }
 {

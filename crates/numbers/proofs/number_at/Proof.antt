@@ -1,4 +1,4 @@
-use Prim.Native.Nat.{ℕ, _-_}
+use Prim.Native.Nat.{_-_}
 use native.Mathlib.Omega.{arith}
 use mathlib.Core.Path.{_≡_, _∙_}
 use mathlib.Core.Logic.{⊎-elim}
@@ -8,7 +8,7 @@ use lib.ListN.{length, getD}
 use denote.Ref.{now}
 use borrow.Author.Tests.{ltb-true, ltb-false}
 use Rattle.numbers.specs.Numbers.{most}
-use Rattle.numbers.proofs.Groups.{fits-fifth, fits-other, fifth-great, zero-last, last-group, group-follows}
+use Rattle.numbers.proofs.Groups.{fits-fifth, fits-other, fifth-great, several, zero-last, last-group, group-follows}
 use Rattle.numbers.proofs.Turns.{Reading, start, byte-first, Follows, follows, last-fits, out-ends, out-wrong, out-read, turn}
 use Rattle.numbers.proofs.number_at.Statement.{statement}
 use Rattle.numbers.proofs.number_at.Tie as tie
@@ -109,7 +109,7 @@ returns-3 c =
     let e = c .before .before .before .before .before in
     out-wrong (e .before .loop .inv)
     (byte-first _ _ _ (e .if1 .left)
-    ∙ zero-last _ _ _ (passed (c .before .before .before)) (c .before .if5 .taken) (ltb-true 0 _ (c .if6 .taken)))
+    ∙ zero-last _ _ _ (passed (c .before .before .before)) (c .before .if5 .taken) (several _ _ (c .if6 .taken)))
 
 -- src/lib.rt:17:1
 returns-4 : tie.Need-returns-4 Inv-loop μ-loop
@@ -118,7 +118,7 @@ returns-4 c =
     out-read (e .before .loop .inv) _
     (byte-first _ _ _ (e .if1 .left)
     ∙ last-group _ _ _ (passed (c .before .before)) (c .before .if4 .taken)
-        (⊎-elim (λ w _. omega (arith, ltb-false 0 (e .before .loop .groups) (w .1 .left))) (λ w z. absurd (w .left z)) (c .if5 .came)))
+    (⊎-elim (λ w _. omega (arith, ltb-false 0 (e .before .loop .groups) (w .1 .left))) (λ w z. absurd (w .left z)) (c .if5 .came)))
 
 pub number-at-spec : {M : Type 1} → statement M
 number-at-spec =

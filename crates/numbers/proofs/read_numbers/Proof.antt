@@ -1,5 +1,6 @@
 use Prim.Native.Nat.{_-_}
 use native.Mathlib.Omega.{arith}
+use mathlib.Core.Path.{sym, _∙_}
 use lib.ListN.{length, length-set}
 use borrow.Author.Needs.{needs}
 use Rattle.numbers.proofs.Rows.{Filling, begin, one-more, out-fault, out-all}
@@ -46,8 +47,8 @@ loop-less c = simp length-set (omega arith)
 -- src/lib.rt:101:5
 loop-again : tie.Need-loop-again Inv-loop μ-loop
 loop-again c =
-    let l = c .before .before .before .before .before in
-    one-more (l .loop .inv) _ _ (c .before .before .before .before .loop-test .taken) cc
+    let l = c .before .before .before .before in
+    one-more (l .before .loop .inv) _ _ (l .loop-test .taken) (sym (c .before .before .before .read-number .ensures) ∙ c .before .value .given .1)
 
 -- src/lib.rt:108:27
 enum-known-refusal : tie.Need-enum-known-refusal Inv-loop μ-loop
@@ -60,8 +61,8 @@ same-length c = search needs
 -- src/lib.rt:109:17
 returns : tie.Need-returns Inv-loop μ-loop
 returns c =
-    let l = c .before .before .before .before .before in
-    out-fault (l .loop .inv) _ _ (c .before .before .before .before .loop-test .taken) cc
+    let l = c .before .before .before .before in
+    out-fault (l .before .loop .inv) _ _ (l .loop-test .taken) (sym (c .before .before .before .read-number .ensures) ∙ c .before .refusal .given .1)
 
 -- src/lib.rt:95:1
 same-length-2 : tie.Need-same-length-2 Inv-loop μ-loop
