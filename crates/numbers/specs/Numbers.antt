@@ -54,7 +54,7 @@ unfoldable pub putIn : ℕ → ℕ → List ℕ
 putIn zero n = n ∷ []
 putIn (suc f) n = cond (ltb n 128) (n ∷ []) ((128 + n % 128) ∷ putIn f (n / 128))
 
--- a number below 2^32 has at most four
+-- a number below 2^32 has at most four before its last
 unfoldable pub put : ℕ → List ℕ
 unfolding putIn
 put n = putIn 4 n
