@@ -2,12 +2,12 @@
 use Prim.Native.Nat.{ℕ, zero, suc, _+_, _-_, _*_, _^_, _≤_, _<_}
 use mathlib.Core.Path.{_≡_, refl, sym, ap, ap₂, _∙_, subst}
 use mathlib.Core.Logic.{_⊎_, inl, inr, ⊎-elim}
-use mathlib.Core.List.{List, [], _∷_, _++_}
+use mathlib.Core.List.{List, [], _∷_, _++_, append-nil}
 use native.Mathlib.Omega.{arith}
 use native.Mathlib.Nat.{add-zero, add-suc}
 use native.Mathlib.Numerals.{add-one}
 use lib.ListN.{length, take, drop, set, length-append, length-set, take-append-drop}
-use lib.Seq.{length-take-le, take-suc-set, drop-set-lt, drop-drop}
+use lib.Seq.{drop-length, length-take-le, take-suc-set, drop-set-lt, drop-drop}
 use Rattle.laws.proofs.Lists.{Each}
 use Rattle.settings.specs.declared.Refusal.{Refusal}
 use Rattle.settings.specs.declared.Refusal.the-variants.{ListEnds, BadNumber}
@@ -69,20 +69,30 @@ fault-of list (fault us j q) vs k p e = inl e
 
 -- ---- laws
 
+-- a row has as many numbers as were asked for
+pub row-count : (list : List ℕ) (at n : ℕ) (ws : List ℕ) (p : ℕ) → numbersAt list at n ≡ all ws p → length ws ≡ n
+unfolding numbersAt
+row-count list at zero ws p e =
+    let none : [] ≡ ws = cc in
+    sym (ap length none)
+row-count list at (suc n) ws p e =
+    let l = last-of list (numbersAt list at n) ws p e in
+    let b = row-count list at n (l .before) (l .place) (l .row) in
+    let count : length ws ≡ length (l .before) + 1 = ap length (l .numbers) ∙ length-append (l .before) (l .value ∷ []) in
+    omega arith
+
 -- a row has as many numbers as were asked for, and stands in the list; none has more than five bytes
 pub row-within : (list : List ℕ) (at n : ℕ) (ws : List ℕ) (p : ℕ) → at ≤ length list → numbersAt list at n ≡ all ws p
     → (length ws ≡ n) × (at ≤ p) × (p ≤ length list) × (p ≤ at + 5 * n)
 unfolding numbersAt
 row-within list at zero ws p h e =
-    let none : [] ≡ ws = cc in
     let here : at ≡ p = cc in
-    (sym (ap length none), omega arith, omega arith, omega arith)
+    (row-count list at zero ws p e, omega arith, omega arith, omega arith)
 row-within list at (suc n) ws p h e =
     let l = last-of list (numbersAt list at n) ws p e in
     let w = number-within list (l .place) (l .value) p (l .number) in
     let b = row-within list at n (l .before) (l .place) h (l .row) in
-    let count : length ws ≡ length (l .before) + 1 = ap length (l .numbers) ∙ length-append (l .before) (l .value ∷ []) in
-    (omega arith, omega arith, w .inside, omega arith)
+    (row-count list at (suc n) ws p e, omega arith, w .inside, omega arith)
 
 each-last : (ws : List ℕ) (w : ℕ) → Each (λ x. x < 2 ^ 32) ws → w < 2 ^ 32 → Each (λ x. x < 2 ^ 32) (ws ++ w ∷ [])
 each-last [] w e h = (h, tt)
@@ -159,6 +169,34 @@ row-fault-within list at (suc n) vs k p h e =
     (omega arith, omega arith, omega arith))
     (fault-of list (numbersAt list at n) vs k p e)
 
+-- ---- what an answer of read_numbers says
+
+-- without a fault, the numbers are all there
+pub told-all : (m : Numbers) (p : ℕ) → rowOf m ≡ row.Next p → m ≡ all (valuesOf m) p
+unfolding rowOf valuesOf
+told-all (all ws q) p e =
+    let same : q ≡ p = cc in
+    ap (all ws) same
+told-all (fault vs k q) p e = let z : _≡_ {A = ℕ} 0 1 = cc in absurd (omega arith)
+
+-- with one, it is the row's
+pub told-fault : (m : Numbers) (k : Refusal) (p : ℕ) → rowOf m ≡ row.Fault k p → m ≡ fault (valuesOf m) k p
+unfolding rowOf valuesOf
+told-fault (all ws q) k p e = let z : _≡_ {A = ℕ} 0 1 = cc in absurd (omega arith)
+told-fault (fault vs j q) k p e =
+    let why : j ≡ k = cc in
+    let same : q ≡ p = cc in
+    ap₂ (fault vs) why same
+
+-- a row that was read fills out with its numbers, and nothing else
+pub filled-all : (list : List ℕ) (at : ℕ) (out ws : List ℕ) (p : ℕ) → numbersAt list at (length out) ≡ all ws p → filled (numbersAt list at (length out)) out ≡ ws
+unfolding filled valuesOf
+filled-all list at out ws p e =
+    ap (λ (m : Numbers). filled m out) e
+    ∙ ap (λ (n : ℕ). ws ++ drop n out) (row-count list at (length out) ws p e)
+    ∙ ap (λ (x : List ℕ). ws ++ x) (drop-length out)
+    ∙ append-nil ws
+
 -- ---- the loop of read_numbers
 
 -- i numbers have been read into out, which was out₀, and the next is due
@@ -184,6 +222,7 @@ drop-one-more i xs ys e = sym (drop-drop 1 i xs) ∙ ap (drop 1) e ∙ drop-drop
 
 -- what the numbers fill in is out itself
 filled-is : (m : Numbers) (i : ℕ) (out₀ out : List ℕ) → i ≤ length out → valuesOf m ≡ take i out → drop i out ≡ drop i out₀ → out ≡ filled m out₀
+unfolding filled
 filled-is m i out₀ out h e r =
     let count : length (valuesOf m) ≡ i = ap length e ∙ length-take-le i out h in
     sym (take-append-drop i out) ∙ ap₂ (λ (x y : List ℕ). x ++ y) (sym e) (r ∙ ap (λ (j : ℕ). drop j out₀) (sym count))
@@ -220,6 +259,7 @@ module _ {list : List ℕ} {at : ℕ} {out₀ out : List ℕ} {due i : ℕ} (f :
 
   pub out-fault : (k : Refusal) (p : ℕ) → i < length out → numberAt list due ≡ Fault k p
       → (row.Fault k p ≡ rowOf (numbersAt list at (length out₀))) × (out ≡ filled (numbersAt list at (length out₀)) out₀)
+  unfolding rowOf valuesOf
   out-fault k p h e =
       let m = stopped k p h e in
       (sym (ap rowOf m), rest-stays (fault (take i out) k p) m refl)
@@ -230,6 +270,7 @@ module _ {list : List ℕ} {at : ℕ} {out₀ out : List ℕ} {due i : ℕ} (f :
       rw whole (f .so-far)
 
   pub out-all : length out ≤ i → (row.Next due ≡ rowOf (numbersAt list at (length out₀))) × (out ≡ filled (numbersAt list at (length out₀)) out₀)
+  unfolding rowOf valuesOf
   out-all h =
       let m = finished h in
       (sym (ap rowOf m), rest-stays (all (take i out) due) m refl)

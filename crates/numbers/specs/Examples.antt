@@ -4,7 +4,7 @@ use mathlib.Core.List.{[], _∷_}
 use Rattle.settings.specs.declared.Refusal.the-variants.{ListEnds, BadNumber}
 use Rattle.numbers.specs.declared.Read.the-variants.{Number, Fault}
 use Rattle.numbers.specs.declared.Row.the-variants as row
-use Rattle.numbers.specs.Numbers.{numeral, numberAt, putIn, put, all, fault, numbersAt, rowOf, filled}
+use Rattle.numbers.specs.Numbers.{numeral, numberAt, putIn, put, all, fault, numbersAt, valuesOf, rowOf, filled}
 
 -- ---- numbers that are read, and how they are put
 
@@ -104,9 +104,9 @@ unfolding numbersAt numberAt numeral
 ends-in-it = refl
 
 row-told : rowOf (numbersAt (0x05 ∷ 0x81 ∷ 0x00 ∷ 0x80 ∷ []) 0 3) ≡ row.Fault BadNumber 1
-unfolding numbersAt numberAt numeral
+unfolding rowOf numbersAt numberAt numeral
 row-told = refl
 
 rest-stays : filled (numbersAt (0x05 ∷ 0x81 ∷ 0x00 ∷ 0x80 ∷ []) 0 3) (91 ∷ 92 ∷ 93 ∷ []) ≡ 5 ∷ 92 ∷ 93 ∷ []
-unfolding numbersAt numberAt numeral
+unfolding filled valuesOf numbersAt numberAt numeral
 rest-stays = refl

@@ -82,15 +82,16 @@ numbersAt list at zero = all [] at
 numbersAt list at (suc n) = more list (numbersAt list at n)
 
 -- those that were read
-abbrev pub valuesOf : Numbers → List ℕ
+unfoldable pub valuesOf : Numbers → List ℕ
 valuesOf (all ws next) = ws
 valuesOf (fault ws refusal place) = ws
 
 -- how the row ended
-abbrev pub rowOf : Numbers → Row
+unfoldable pub rowOf : Numbers → Row
 rowOf (all ws next) = row.Next next
 rowOf (fault ws refusal place) = row.Fault refusal place
 
 -- those that were read in the first places of out, and the rest of it as it was
-abbrev pub filled : Numbers → List ℕ → List ℕ
+unfoldable pub filled : Numbers → List ℕ → List ℕ
+unfolding valuesOf
 filled m out = valuesOf m ++ drop (length (valuesOf m)) out
