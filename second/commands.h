@@ -10,6 +10,16 @@ int selftest_command(void);
 int cases_command(FILE *out);
 int sweeps_command(FILE *out);
 
+/* Writes the lists into a directory that is there, and what is due of them into its file `due`. With a number, which is
+ * NULL for all, it leaves lists out and keeps at least so many, of every kind. */
+int lists_command(const char *directory, const char *at_least);
+
+enum {
+    /* An accepted list has at most 7 numbers of 5 bytes, Z, a count of 2 bytes and 1,024 words of 5 bytes. What lies
+     * past that is found to be extra at its first byte, so more of the input need not be kept. */
+    MOST_LIST = 8192
+};
+
 /* Runs a list and prints what the list program prints of it. */
 void print_run(FILE *out, const uint8_t *list, size_t list_len);
 

@@ -3,12 +3,6 @@
 
 #include <string.h>
 
-enum {
-    /* An accepted list has at most 7 numbers of 5 bytes, Z, a count of 2 bytes and 1,024 words of 5 bytes. What lies
-     * past that is found to be extra at its first byte, so more of the input need not be kept. */
-    MOST_LIST = 8192
-};
-
 /* The lengths to lend must be known before the run: they are those of the list's own VL. Where it has none, the run
  * is refused before the lengths are looked at. */
 static uint32_t vl_of(const uint8_t *list, size_t list_len)
@@ -82,10 +76,12 @@ int main(int argc, char **argv)
         code = cases_command(stdout);
     else if (argc == 2 && strcmp(argv[1], "sweeps") == 0)
         code = sweeps_command(stdout);
+    else if ((argc == 3 || argc == 4) && strcmp(argv[1], "lists") == 0)
+        code = lists_command(argv[2], argv[3]);
     else if (argc == 2 && strcmp(argv[1], "run") == 0)
         code = run_command();
     else
-        fprintf(stderr, "usage: second selftest | cases | sweeps | run\n");
+        fprintf(stderr, "usage: second selftest | cases | sweeps | lists DIRECTORY [N] | run\n");
     /* A full disk must not look like a good run. */
     if (fflush(stdout) != 0)
         return 1;

@@ -1,4 +1,5 @@
 #include "commands.h"
+#include "lists.h"
 #include "second.h"
 #include "stored.h"
 #include "sweeps.h"
@@ -132,32 +133,22 @@ static void rows_of_de(void)
 
 /* Lists */
 
-static uint8_t list[16384];
-static size_t list_len;
-
-static void put_number(uint32_t number)
-{
-    while (number >= 128) {
-        list[list_len++] = (uint8_t)(number % 128 + 128);
-        number /= 128;
-    }
-    list[list_len++] = (uint8_t)number;
-}
+static struct list list;
 
 static void put_head(uint32_t vl, uint32_t features, uint32_t modes)
 {
-    list_len = 0;
-    put_number(vl);
-    put_number(features);
-    put_number(modes);
+    list.length = 0;
+    put_number(&list, vl);
+    put_number(&list, features);
+    put_number(&list, modes);
     for (int i = 0; i < 4; i++)
-        put_number(0);
+        put_number(&list, 0);
 }
 
 static void put_z(void)
 {
-    memset(list + list_len, 1, 512);
-    list_len += 512;
+    memset(list.bytes + list.length, 1, 512);
+    list.length += 512;
 }
 
 struct answer {
@@ -179,7 +170,7 @@ static struct answer run(size_t length, size_t z_len, size_t za_len, size_t repo
     uint8_t *exact = malloc(length + (length == 0));
     if (exact == NULL)
         abort();
-    memcpy(exact, list, length);
+    memcpy(exact, list.bytes, length);
     a.refusal = second_run(exact, length, z, z_len, za, za_len, report, report_len, &a.place, &a.words);
     free(exact);
     a.untouched = 1;
@@ -203,25 +194,31 @@ static void put_example(void)
     static const uint8_t head[] = {0x80, 0x01, 0x0C, 0x03, 0, 0, 0, 0};
     static const uint8_t tail[] = {0x03, 0x88, 0x80, 0x88, 0x8D, 0x0C, 0xA0, 0x80, 0x8A, 0x71, 0x80, 0x80, 0x88,
                                    0x8D, 0x0C};
-    memcpy(list, head, sizeof head);
-    list_len = sizeof head;
+    memcpy(list.bytes, head, sizeof head);
+    list.length = sizeof head;
     put_z();
-    memcpy(list + list_len, tail, sizeof tail);
-    list_len += sizeof tail;
+    memcpy(list.bytes + list.length, tail, sizeof tail);
+    list.length += sizeof tail;
 }
 
-static void printed(const char *expected, const char *what)
+/* What the list program prints. It is lent until the next call. */
+static const char *text_of(const uint8_t *bytes, size_t length)
 {
-    char text[512] = "";
+    static char text[64 * (SECOND_MOST_WORDS + 2)];
     FILE *out = tmpfile();
     if (out == NULL)
         abort();
-    print_run(out, list, list_len);
+    print_run(out, bytes, length);
     rewind(out);
     size_t got = fread(text, 1, sizeof text - 1, out);
     text[got] = '\0';
     fclose(out);
-    check(strcmp(text, expected) == 0, what);
+    return text;
+}
+
+static void printed(const char *expected, const char *what)
+{
+    check(strcmp(text_of(list.bytes, list.length), expected) == 0, what);
 }
 
 static void lists(void)
@@ -232,74 +229,74 @@ static void lists(void)
             "the example list");
     /* Every list that ends early is 7: at the number or the Z bytes that it ends in. */
     static const size_t starts[] = {0, 2, 3, 4, 5, 6, 7, 8, 520, 521, 526, 530, 535};
-    for (size_t i = 0, at = 0; i < list_len; i++) {
+    for (size_t i = 0, at = 0; i < list.length; i++) {
         while (at + 1 < sizeof starts / sizeof *starts && starts[at + 1] <= i)
             at++;
         refused(i, 7, starts[at], "a list cut short");
     }
-    list[list_len++] = 0;
-    refused(list_len, 10, 535, "extra bytes");
-    list_len = 0;
+    list.bytes[list.length++] = 0;
+    refused(list.length, 10, 535, "extra bytes");
+    list.length = 0;
     printed("refused 7 at 0\n", "the empty list");
     put_head(128, 12, 3);
     put_z();
-    put_number(0);
+    put_number(&list, 0);
     printed("words 0\ntotal 0 0 0\n", "no words");
 }
 
 static void numbers(void)
 {
-    memset(list, 0x80, 8);
+    memset(list.bytes, 0x80, 8);
     refused(4, 7, 0, "four bytes that go on");
     refused(5, 8, 0, "a fifth byte of 128 is above 15");
-    list[4] = 16;
+    list.bytes[4] = 16;
     refused(5, 8, 0, "a fifth byte of 16");
-    list[4] = 0;
+    list.bytes[4] = 0;
     refused(5, 8, 0, "a fifth byte of 0");
-    list[4] = 15;
+    list.bytes[4] = 15;
     refused(5, 7, 5, "a fifth byte of 15 is a number");
-    list[1] = 0;
+    list.bytes[1] = 0;
     refused(2, 8, 0, "a last group of zero");
-    list[0] = 0;
-    list[1] = 0x80;
-    list[2] = 0;
+    list.bytes[0] = 0;
+    list.bytes[1] = 0x80;
+    list.bytes[2] = 0;
     refused(3, 8, 1, "a last group of zero, second number");
 }
 
 static void list_settings(void)
 {
     put_head(127, 0, 0);
-    refused(list_len, 1, 0, "list: VL 127");
+    refused(list.length, 1, 0, "list: VL 127");
     put_head(128, 32, 0);
-    refused(list_len, 1, 0, "list: features 32");
+    refused(list.length, 1, 0, "list: features 32");
     put_head(128, 12, 4);
-    refused(list_len, 1, 0, "list: modes 4");
+    refused(list.length, 1, 0, "list: modes 4");
     put_head(128, 12, 3);
-    refused(list_len - 1, 7, list_len - 1, "list: settings wait for W11");
-    check(run(list_len, 511, 256, 3072).refusal == 2, "list: Z short");
-    check(run(list_len, 513, 256, 3072).refusal == 2, "list: Z long");
-    check(run(list_len, 512, 255, 3072).refusal == 2, "list: ZA short");
-    check(run(list_len, 512, 257, 3072).refusal == 2, "list: ZA long");
-    refused(list_len, 7, list_len, "list: no Z bytes");
+    refused(list.length - 1, 7, list.length - 1, "list: settings wait for W11");
+    check(run(list.length, 511, 256, 3072).refusal == 2, "list: Z short");
+    check(run(list.length, 513, 256, 3072).refusal == 2, "list: Z long");
+    check(run(list.length, 512, 255, 3072).refusal == 2, "list: ZA short");
+    check(run(list.length, 512, 257, 3072).refusal == 2, "list: ZA long");
+    refused(list.length, 7, list.length, "list: no Z bytes");
 }
 
 static void list_words(void)
 {
     put_head(128, 12, 3);
     put_z();
-    size_t count_place = list_len;
-    put_number(1025);
-    refused(list_len, 9, count_place, "row 15: 1,025 words");
-    struct answer nine = run(list_len, 512, 256, 0);
+    size_t count_place = list.length;
+    put_number(&list, 1025);
+    refused(list.length, 9, count_place, "row 15: 1,025 words");
+    struct answer nine = run(list.length, 512, 256, 0);
     check(nine.refusal == 9 && nine.place == count_place && nine.untouched, "9 before the report's length");
-    list_len = count_place;
-    put_number(1024);
-    check(run(list_len, 512, 256, 3071).refusal == 2, "the report's length before the first word");
+    list.length = count_place;
+    put_number(&list, 1024);
+    check(run(list.length, 512, 256, 3071).refusal == 2, "the report's length before the first word");
     for (int i = 0; i < 1024; i++)
-        put_number(0xC1A20008);
-    struct answer a = run(list_len, 512, 256, 3072);
+        put_number(&list, 0xC1A20008);
+    struct answer a = run(list.length, 512, 256, 3072);
     check(a.refusal == 0 && a.place == 0 && a.words == 1024 && !a.untouched, "row 15: 1,024 words");
-    a = run(list_len, 512, 256, 3071);
+    a = run(list.length, 512, 256, 3071);
     check(a.refusal == 2 && a.place == 0 && a.words == 0 && a.untouched, "a report one short");
 }
 
@@ -441,6 +438,110 @@ static void round_trips(void)
     check(!leads_back(&w, &swept), "a word of C");
 }
 
+/* The lists that `second lists` makes */
+
+/* How many lists there are of each kind, and which answers they get between them: bit k for refusal k, bit 0 for
+ * accepted. */
+static struct {
+    const char *name;
+    unsigned count, answers;
+} kinds[] = {{"settings", 204, 1 << 0},
+             {"families", 90, 1 << 0},
+             {"selects", 56, 1 << 0},
+             {"counts", 90, 1 << 0},
+             {"longest", 12, 1 << 0 | 1 << 7 | 1 << 9 | 1 << 10},
+             {"ends", 73, 1 << 7},
+             {"numbers", 220, 1 << 0 | 1 << 1 | 1 << 7 | 1 << 8 | 1 << 9},
+             {"too-many", 24, 1 << 9},
+             {"extra", 60, 1 << 10},
+             {"bad-settings", 120, 1 << 1 | 1 << 7 | 1 << 8},
+             {"cuts", 652, 1 << 7},
+             {"random", 100, 1 << 1 | 1 << 7 | 1 << 8},
+             {"tails", 120, 1 << 0 | 1 << 7 | 1 << 8 | 1 << 9 | 1 << 10},
+             {"changes", 160, 1 << 0 | 1 << 1 | 1 << 7 | 1 << 8 | 1 << 9 | 1 << 10},
+             {"long-inputs", 20, 1 << 1 | 1 << 8 | 1 << 9 | 1 << 10}};
+enum { KINDS = sizeof kinds / sizeof *kinds };
+
+static struct made {
+    unsigned counts[KINDS], answers[KINDS];
+    unsigned refused[11];    /* words, by refusal */
+    unsigned executed[6][3]; /* words, by family and VL */
+    unsigned selected[4];    /* words of D and E, by select register */
+    size_t longest;          /* of the accepted lists */
+    uint32_t checksum;       /* of all bytes */
+} made;
+
+static void look_at_word(uint32_t vl, const char *line)
+{
+    static const struct second_settings all = {.vl = 128, .features = 31};
+    struct second_fields f;
+    unsigned word, refusal;
+    if (sscanf(line, "%*u %x refused %u", &word, &refusal) == 2)
+        made.refused[refusal < 11 ? refusal : 0]++;
+    else if (sscanf(line, "%*u %x %*u %*u %*u", &word) == 1 && second_decode(&all, word, &f) == 0) {
+        made.executed[f.family][vl / 256]++;
+        if (f.select != 0)
+            made.selected[f.select - 8]++;
+    }
+}
+
+/* A place is the first byte of what is at fault. So a list that is cut there ends before something that is due, or,
+ * where the fault is extra bytes, has nothing wrong. */
+static void look_at_place(const struct list *l, int refusal, size_t place)
+{
+    char expected[64] = "words ";
+    if (refusal != 10)
+        snprintf(expected, sizeof expected, "refused 7 at %zu\n", place);
+    check(refusal == 1 ? place == 0 : place <= l->length, "made lists: a place in the list");
+    if (refusal != 1 && place <= l->length)
+        check(strncmp(text_of(l->bytes, place), expected, strlen(expected)) == 0, "made lists: cut at the place");
+}
+
+static void look_at_list(void *context, const char *kind, const struct list *l)
+{
+    uint32_t vl = 0;
+    size_t at = 0, place, k = 0;
+    int refusal = 0;
+    (void)context;
+    while (k + 1 < KINDS && strcmp(kinds[k].name, kind) != 0)
+        k++;
+    made.counts[k]++;
+    for (size_t i = 0; i < l->length; i++)
+        made.checksum = (made.checksum ^ l->bytes[i]) * 16777619u;
+    const char *text = text_of(l->bytes, l->length);
+    if (sscanf(text, "refused %d at %zu", &refusal, &place) == 2) {
+        check(refusal > 0 && refusal < 11, "made lists: a refusal number");
+        look_at_place(l, refusal, place);
+    } else {
+        second_read_number(l->bytes, l->length, &at, &vl);
+        made.longest = l->length > made.longest ? l->length : made.longest;
+        for (const char *line = text; (line = strchr(line, '\n')) != NULL && *++line != 't';)
+            look_at_word(vl, line);
+    }
+    made.answers[k] |= 1u << refusal;
+    if (l->length > MOST_LIST) {
+        static char kept[64];
+        snprintf(kept, sizeof kept, "%s", text_of(l->bytes, MOST_LIST));
+        check(strcmp(text_of(l->bytes, l->length), kept) == 0, "made lists: the bytes that are kept decide");
+    }
+}
+
+static void made_lists(void)
+{
+    make_lists(look_at_list, NULL);
+    for (size_t k = 0; k < KINDS; k++)
+        check(made.counts[k] == kinds[k].count && made.answers[k] == kinds[k].answers, kinds[k].name);
+    for (int family = SECOND_FAMILY_A; family <= SECOND_FAMILY_E; family++)
+        for (int v = 0; v < 3; v++)
+            check(made.executed[family][v] > 100, "made lists: each family at each VL");
+    for (int i = 0; i < 4; i++)
+        check(made.selected[i] > 100, "made lists: each select register");
+    check(made.refused[3] > 100 && made.refused[4] > 100, "made lists: words refused with 3 and with 4");
+    check(made.longest == 7194, "made lists: the longest list");
+    /* Of whatever compiler: a number changes here only when the lists are meant to change. */
+    check(made.checksum == 0x8491F095, "made lists: the same ones as ever");
+}
+
 int selftest_command(void)
 {
     rows_of_ab();
@@ -456,6 +557,7 @@ int selftest_command(void)
     encodes();
     every_word();
     round_trips();
+    made_lists();
     if (failures != 0) {
         printf("%u checks, %u failed\n", checks, failures);
         return 1;

@@ -1,0 +1,24 @@
+/* Run lists of every kind, good and bad, for the list program to be held to. README.md says what the kinds are. */
+#ifndef LISTS_H
+#define LISTS_H
+
+#include <stddef.h>
+#include <stdint.h>
+
+enum { MOST_MADE = 70000 };
+
+struct list {
+    uint8_t bytes[MOST_MADE];
+    size_t length;
+};
+
+/* Puts a number, in its shortest form, at the list's end. */
+void put_number(struct list *list, uint32_t number);
+
+/* Takes one list and the name of its kind. The list is lent until the call returns. */
+typedef void take_list(void *context, const char *kind, const struct list *list);
+
+/* Makes all lists, kind after kind, the same ones in the same order at each call. */
+void make_lists(take_list *take, void *context);
+
+#endif
