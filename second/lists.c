@@ -209,8 +209,8 @@ static struct plan short_plan(uint32_t vl, uint32_t count)
 
 /* Whole lists */
 
-/* Each sum of features with each sum of modes that it permits, at each VL: a word of each family and lane, in turn
- * accepted and refused with 3 or 4, and two that are mostly no words. */
+/* Each sum of features with each sum of modes that it permits, at each VL: a word of each family and lane, which is
+ * accepted or refused with 3 or 4, and two that are mostly no words. */
 static void all_settings(void)
 {
     for (uint32_t v = 0; v < 3; v++)
