@@ -3,13 +3,14 @@ use Prim.Native.Nat.{ℕ, _+_, _-_, _*_, _/_, _%_, _≤_, _<_}
 use native.Mathlib.Nat.{zero-add, zero-mul, mul-comm, mul-assoc, mod-lt}
 use native.Mathlib.Omega.{arith}
 use mathlib.Core.Path.{_≡_, refl, sym, ap, _∙_, subst}
-use mathlib.Core.Logic.{_⊎_, inl, inr}
+use mathlib.Core.Logic.{_⊎_, inl, inr, ⊎-elim}
 use mathlib.Core.List.{List}
+use lib.Dec.{lit≤}
 use lib.ListN.{getD}
 use Rattle.settings.specs.Lengths.{VectorLength}
 use Rattle.settings.specs.Valid.{vectorBytes, arrayBytes}
 use Rattle.settings.specs.declared.Settings.{Settings}
-use Rattle.settings.proofs.Lengths.{vector-length, array-length, same-length}
+use Rattle.settings.proofs.Lengths.{vector-length, array-length, vector-at-most, same-length}
 use Rattle.words.specs.Ranges.{Ranges, OfFamily}
 use Rattle.words.specs.declared.Family.{Family}
 use Rattle.words.specs.declared.Family.the-variants.{ByElement, Vector, Saturating, LongLong, Long}
@@ -25,7 +26,7 @@ use Rattle.recipes.proofs.Inside.{bits-of-lane}
 use Rattle.recipes.proofs.Sizes.{half-in-bits, bits-of-doubled, bits-of-quadrupled, in-half, Lane, InBits, newOf}
 use Rattle.machine.specs.Step.{register, zAfter, stride, selected, firstVector, zaAfter}
 use Rattle.machine.specs.Execute.{steppedBy, stepped}
-use Rattle.machine.specs.Theorems.{VL, Accepted, KeepsIfRefused, SameLengths, StillBytes, CountsToggled, AtMostWritten}
+use Rattle.machine.specs.Theorems.{VL, Accepted, KeepsIfRefused, SameLengths, StillBytes, CountsToggled, AtMostWritten, FewWritten}
 use Rattle.machine.specs.Theorems.{ElementsA, ElementsB, ElementsC, ElementsZa}
 use Rattle.machine.specs.Theorems.{zaVector, Among, First, Distinct, Exact}
 use Rattle.machine.proofs.Grid.{rows-distinct, row-lt}
@@ -82,6 +83,20 @@ module _ (s : Settings) (w : ℕ) (f : Fields) (z za : List ℕ) (a : Accepted s
       let e : f .group * k * (8 * arrayBytes s) ≡ VL s * f .group * k =
       rw same-length (mul-comm (f .group * k) (VL s) ∙ sym (mul-assoc (VL s) (f .group) k)) in
       rw (toggled-same z) (omega (arith, za-few s v-za f g i z za (a .za-exact))))
+
+  long : VL s ≤ 512
+  long = omega (arith, vector-at-most s (a .valid))
+
+  most-written : (family : Family) → OfFamily family f → steppedBy family s f z za .written ≤ 8192
+  most-written ByElement o = lit≤ tt
+  most-written Vector o = lit≤ tt
+  most-written Saturating o = omega (arith, long)
+  most-written LongLong o = ⊎-elim (λ (e : f .group ≡ 2). rw e (omega (arith, long))) (λ (e : f .group ≡ 4). rw e (omega (arith, long))) (o .0)
+  most-written Long o = ⊎-elim (λ (e : f .group ≡ 2). rw e (omega (arith, long))) (λ (e : f .group ≡ 4). rw e (omega (arith, long))) (o .0)
+
+  pub step-most : FewWritten z za (stepped s f z za)
+  unfolding stepped
+  step-most = most-written (f .family) (g .of-family)
 
   -- ---- the elements that are new, by the family's recipe
 

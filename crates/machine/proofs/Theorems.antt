@@ -14,12 +14,12 @@ use Rattle.bits.proofs.Bits.{toggled-same}
 use Rattle.recipes.specs.Recipe.{perSource}
 use Rattle.machine.specs.Execute.{Outcome, refusedWith, steppedBy, stepped}
 use Rattle.machine.specs.Theorems.{VL, LengthIsVL, Accepted, AcceptedSteps, AcceptedExactly, AlwaysInOrder}
-use Rattle.machine.specs.Theorems.{Always, KeepsIfRefused, SameLengths, StillBytes, CountsToggled, AtMostWritten}
+use Rattle.machine.specs.Theorems.{Always, KeepsIfRefused, SameLengths, StillBytes, CountsToggled, AtMostWritten, FewWritten}
 use Rattle.machine.specs.Theorems.{Whenever, ElementsA, ElementsB, ElementsC, ElementsZa, WrittenIs, ElsewhereZ, ZElsewhere, ElsewhereZa}
 use Rattle.machine.specs.Theorems.{WheneverZa, First, Distinct, Exact}
 use Rattle.machine.proofs.Array.{IntoZa}
 use Rattle.machine.proofs.Outcomes.{accepted, in-order, IsRefused, refused-or-accepted, stepped-as, stepped-number}
-use Rattle.machine.proofs.Accepted.{step-accepts, step-lengths, step-bytes, step-toggled, step-few}
+use Rattle.machine.proofs.Accepted.{step-accepts, step-lengths, step-bytes, step-toggled, step-few, step-most}
 use Rattle.machine.proofs.Accepted.{elements-a, elements-b, elements-c, elements-d, elements-e, out-z, out-za, first, distinct, exact}
 
 -- ---- VL
@@ -69,6 +69,9 @@ toggled-whole = always CountsToggled (λ n z za h. rw (toggled-same z, toggled-s
 
 pub toggled-le-written : Always AtMostWritten
 toggled-le-written = always AtMostWritten (λ n z za h. omega arith) step-few
+
+pub few-written : Always FewWritten
+few-written = always FewWritten (λ n z za h. omega arith) step-most
 
 -- ---- where a word of a family is accepted
 

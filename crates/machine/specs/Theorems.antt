@@ -88,6 +88,10 @@ CountsToggled z za o = o .toggled ≡ toggled z (o .z) + toggled za (o .za)
 abbrev pub AtMostWritten : List ℕ → List ℕ → Outcome → Type 0
 AtMostWritten z za o = o .toggled ≤ o .written
 
+-- VL·group·4 with the greatest VL and the greatest group
+abbrev pub FewWritten : List ℕ → List ℕ → Outcome → Type 0
+FewWritten z za o = o .written ≤ 8192
+
 -- ---- what holds where a word of a family is accepted
 
 -- P of the settings, the fields, Z and ZA before the call, and the outcome

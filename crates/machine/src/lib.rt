@@ -136,7 +136,7 @@ fn permitted(features: Features, modes: Modes, family: Family) -> bool
     }
 }
 
-fn right_lengths(settings: Settings, z: usize, za: usize) -> bool
+pub fn right_lengths(settings: Settings, z: usize, za: usize) -> bool
     requires { ⌜ validSettings settings ≡ true ⌝ }
     ensures { λ r. ⌜ r ≡ rightLengths settings z za ⌝ }
 {
