@@ -1,0 +1,91 @@
+-- Document 01, "The run list": what running a list answers, and what it leaves in Z, ZA and the report.
+use Prim.Native.Nat.{ℕ, _+_, _*_}
+use mathlib.Core.Path.{_≡_}
+use mathlib.Core.List.{List, [], _∷_, _++_}
+use lib.ListN.{length, take, drop, replicate}
+use Rattle.settings.specs.Refused.{refusalNumber}
+use Rattle.tally.specs.Tally.{plus}
+use Rattle.tally.specs.declared.Tally.{Tally}
+use Rattle.machine.specs.Execute.{executePaper}
+use Rattle.machine.specs.Run.{Report, Run, runOf}
+use Rattle.runlist.specs.Plan.{Found, found, refused, Asked, planOf}
+use Rattle.runlist.specs.declared.RunAnswer.{RunAnswer}
+use Rattle.runlist.specs.declared.RunAnswer.the-variants as answer
+use Rattle.runlist.specs.declared.Reported.{Reported}
+
+-- the refusal's number or 0, and its place; the count of words and their tally; Z, ZA and the report at the end
+pub record Ended : Type 0 where
+  pub number : ℕ
+  pub place : ℕ
+  pub words : ℕ
+  pub tally : Tally
+  pub z : List ℕ
+  pub za : List ℕ
+  pub report : List ℕ
+
+abbrev pub noTally : Tally
+noTally = record { toggled = 0; written = 0 }
+
+-- "A running tally is brought up to date by each word"
+unfoldable pub tallied : Tally → List Report → Tally
+tallied t [] = t
+tallied t (r ∷ rs) = tallied (plus t (r .1) (r .2)) rs
+
+-- "three numbers for each word (refusal or 0, toggled, written) in the report"
+abbrev pub three : Report → List ℕ
+three r = r .0 ∷ r .1 ∷ r .2 ∷ []
+
+unfoldable pub threes : List Report → List ℕ
+threes [] = []
+threes (r ∷ rs) = three r ++ threes rs
+
+-- a refused list changes no lent byte or number
+abbrev pub refusedAt : ℕ → ℕ → List ℕ → List ℕ → List ℕ → Ended
+refusedAt n p z za report = record { number = n; place = p; words = 0; tally = noTally; z = z; za = za; report = report }
+
+-- "An accepted list leaves the final Z and ZA, and three numbers for each word .. in the report, whose rest stays"
+abbrev pub ran : ℕ → Run → List ℕ → Ended
+ran n r report =
+    record {
+      number = 0;
+      place = 0;
+      words = n;
+      tally = tallied noTally (r .reports);
+      z = r .z;
+      za = r .za;
+      report = threes (r .reports) ++ drop (3 * n) report;
+    }
+
+-- each word is executed in its turn, from the list's Z bytes on. "ZA starts at zero"
+abbrev pub carriedOut : Found Asked → List ℕ → List ℕ → List ℕ → Ended
+carriedOut (found a) z za report =
+    ran (length (a .words)) (runOf (executePaper (a .settings)) (a .words) (a .z) (replicate (length za) 0)) report
+carriedOut (refused r p) z za report = refusedAt (refusalNumber r) p z za report
+
+unfoldable pub runPaper : List ℕ → List ℕ → List ℕ → List ℕ → Ended
+runPaper list z za report = carriedOut (planOf list (length z) (length za) (length report)) z za report
+
+-- what an answer says, with Z, ZA and the report as the call left them
+abbrev pub runSays : RunAnswer → List ℕ → List ℕ → List ℕ → Ended
+runSays (answer.Ran n t) z za report = record { number = 0; place = 0; words = n; tally = t; z = z; za = za; report = report }
+runSays (answer.Refused r p) z za report = refusedAt (refusalNumber r) p z za report
+
+-- what `run` promises of its answer, and of Z, ZA and the report at the call's end
+abbrev pub RunPromise : List ℕ → List ℕ → List ℕ → List ℕ → RunAnswer → List ℕ → List ℕ → List ℕ → Type 0
+RunPromise list z za report r z′ za′ report′ = runSays r z′ za′ report′ ≡ runPaper list z za report
+
+-- ---- only contracts use these
+
+abbrev pub threeOf : Reported → Report
+threeOf r = (r .refusal, r .toggled, r .written)
+
+-- the report with the numbers of word i
+abbrev pub withThree : ℕ → Report → List ℕ → List ℕ
+withThree i r report = take (3 * i) report ++ (three r ++ drop (3 * i + 3) report)
+
+-- a run as the code leaves it
+pub record Performed (r : Run) (n : ℕ) (report : List ℕ) (t : Tally) (z′ za′ report′ : List ℕ) : Type 0 where
+  pub z-is : z′ ≡ r .z
+  pub za-is : za′ ≡ r .za
+  pub report-is : report′ ≡ threes (r .reports) ++ drop (3 * n) report
+  pub tally-is : t ≡ tallied noTally (r .reports)
