@@ -97,7 +97,7 @@ pub fn refusal_number(refusal: Refusal) -> u32
     }
 }
 
-fn valid_length(vl: u32) -> bool
+pub fn valid_length(vl: u32) -> bool
     ensures { λ r. ⌜ r ≡ validLength vl ⌝ }
 {
     (vl == 128) | (vl == 256) | (vl == 512)

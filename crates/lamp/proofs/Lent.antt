@@ -1,0 +1,54 @@
+-- The lengths that the program lends. Assumes nothing.
+use Prim.Native.Nat.{ℕ, _+_, _-_, _*_, _/_, _≤_}
+use native.Mathlib.Nat.{le-trans, mul-le-mul-left, mul-le-mul-right}
+use native.Mathlib.Omega.{arith}
+use mathlib.Core.Path.{_≡_, sym, ap, ap₂, _∙_, subst}
+use mathlib.Core.Bool.{true, false, _||_}
+use mathlib.Core.List.{List}
+use lib.Dec.{eqb, lit≤}
+use lib.ListN.{take, replicate, length-replicate, replicate-append-replicate}
+use lib.Seq.{take-at}
+use borrow.Author.Tests.{eqb-true}
+use Rattle.laws.proofs.Tests.{either}
+use Rattle.settings.specs.Valid.{validLength}
+use Rattle.numbers.specs.declared.Read.{Read}
+use Rattle.numbers.specs.declared.Read.the-variants.{Number}
+use Rattle.lamp.specs.Lamp.{linesOf, registerOf, registerBytes, printed}
+
+-- 512 bits are the most
+most : (vl : ℕ) → validLength vl ≡ true → vl / 8 ≤ 64
+most vl v =
+    either (eqb vl 128 || eqb vl 256) (eqb vl 512) v
+    (λ p. either (eqb vl 128) (eqb vl 256) p (is 128 (lit≤ tt)) (is 256 (lit≤ tt)))
+    (is 512 (lit≤ tt))
+  where
+    is : (n : ℕ) → n / 8 ≤ 64 → eqb vl n ≡ true → vl / 8 ≤ 64
+    is n h e = subst (λ (k : ℕ). k / 8 ≤ 64) (sym (eqb-true vl n e)) h
+
+module _ (first : Read) (vl next : ℕ) (e : first ≡ Number vl next) where
+  pub register-valid : validLength vl ≡ true → (vl / 8 ≡ registerOf first) × (vl / 8 ≤ 64)
+  register-valid v = (sym (ap registerOf e ∙ rw v), most vl v)
+
+  pub register-not : validLength vl ≡ false → (0 ≡ registerOf first) × (0 ≤ 64)
+  register-not v = (sym (ap registerOf e ∙ rw v), lit≤ tt)
+
+-- ---- the zeros that are lent
+
+pub square : (n : ℕ) → n ≤ 64 → n * n ≤ 4096
+square n h = le-trans (mul-le-mul-right n h) (mul-le-mul-left 64 h)
+
+abbrev noughts : ℕ → List ℕ
+noughts n = replicate n 0
+
+pub zeros : (k n : ℕ) → k ≤ n → take k (noughts n) ≡ noughts k
+zeros k n h =
+    let split : k + (n - k) ≡ n = omega arith in
+    ap (take k) (ap noughts (sym split) ∙ sym (replicate-append-replicate k (n - k) 0))
+    ∙ take-at (noughts k) (noughts (n - k)) k (length-replicate k 0)
+
+pub as-printed : (list : List ℕ) (w : ℕ) → w ≡ registerBytes list → w ≤ 64
+    → linesOf list (take (32 * w) (replicate 2048 0)) (take (w * w) (replicate 4096 0)) (replicate 3072 0) ≡ printed list
+unfolding printed
+as-printed list w e h =
+    ap₂ (λ (z za : List ℕ). linesOf list z za (replicate 3072 0)) (zeros (32 * w) 2048 (omega arith)) (zeros (w * w) 4096 (square w h))
+    ∙ ap (λ (n : ℕ). linesOf list (replicate (32 * n) 0) (replicate (n * n) 0) (replicate 3072 0)) e

@@ -1,0 +1,161 @@
+-- `lamp::put_lines` meets its contract. Assumes nothing.
+use Prim.Native.Nat.{ℕ, _*_, _≤_}
+use native.Mathlib.Omega.{arith}
+use mathlib.Core.Path.{_≡_, sym, ap, _∙_}
+use lib.ListN.{length, take}
+use lib.Seq.{length-take-le}
+use Rattle.runlist.specs.Plan.{Found, Asked, mostWords, planOf}
+use Rattle.runlist.specs.RunList.{runSays, RunPromise}
+use Rattle.runlist.specs.declared.RunAnswer.{RunAnswer}
+use Rattle.runlist.specs.declared.RunAnswer.the-variants.{Ran}
+use Rattle.lines.proofs.Pieces.{said}
+use Rattle.lamp.specs.Lamp.{wordsOf}
+use Rattle.lamp.proofs.Text.{accepted, front, text-ran, text-refused}
+use borrow.Author.Needs.{needs}
+use Rattle.lamp.proofs.put_lines.Statement.{statement}
+use Rattle.lamp.proofs.put_lines.Tie as tie
+use Rattle.lamp.proofs.put_lines.Reads as reads
+use Rattle.lamp.proofs.put_lines.Lts as lts
+use Rattle.lamp.proofs.read_words.Reads as read-words-reads
+use Rattle.lines.proofs.put_ran.Reads as put-ran-reads
+use Rattle.lines.proofs.put_refused.Reads as put-refused-reads
+use Rattle.runlist.proofs.run.Reads as run-reads
+use Rattle.settings.proofs.refusal_number.Reads as refusal-number-reads
+
+-- the places that the answers speak of: the entry, the run, and what was counted
+abbrev entry : tie.After-run → tie.Start
+entry c = c .before .before .before .before .before .before .before .before .before .before
+
+abbrev ran : tie.After-count → tie.After-run
+ran c = c .before .before .before .before .before .before .before .before
+
+abbrev counted : tie.After-read-words → tie.After-count
+counted c = c .before .before .before
+
+abbrev count : tie.After-count → ℕ
+count c = c .count .given .0 .0
+
+abbrev asked : tie.After-run → Found Asked
+asked c = planOf (entry c .args .list .now) (length (entry c .args .z .now)) (length (entry c .args .za .now)) (length (entry c .args .report .now))
+
+promised : (c : tie.After-count)
+    → RunPromise (entry (ran c) .args .list .now) (entry (ran c) .args .z .now) (entry (ran c) .args .za .now) (entry (ran c) .args .report .now)
+    (Ran (count c) (c .count .given .0 .1 .0)) (ran c .run .last .1 .0) (ran c .run .last .1 .1 .0) (ran c .run .last .1 .1 .1 .0)
+promised c =
+    ap (λ (r : RunAnswer). runSays r (ran c .run .last .1 .0) (ran c .run .last .1 .1 .0) (ran c .run .last .1 .1 .1 .0)) (sym (c .count .given .1))
+    ∙ ran c .run .ensures
+
+-- the words stand in front, and they are few enough
+words-there : (c : tie.After-read-words)
+    → (take (count (counted c)) (c .read-words .last .1 .1 .1 .1 .0) ≡ wordsOf (asked (ran (counted c))))
+    × (count (counted c) ≤ mostWords) × (3 * count (counted c) ≤ length (entry (ran (counted c)) .args .report .now))
+words-there c =
+    let r = ran (counted c) in
+    front _ _ _ _ _ _ (accepted _ _ _ _ _ _ _ _ _ (promised (counted c)))
+    (rw (r .run .kept .1 .0, r .run .kept .1 .1 .0, r .run .kept .1 .1 .1 .0) at (c .read-words .ensures))
+
+as-many : (c : tie.After-read-words) → length (take (count (counted c)) (c .read-words .last .1 .1 .1 .1 .0)) ≡ count (counted c)
+as-many c =
+    length-take-le _ _ (omega (arith, words-there c .1, c .read-words .kept .1 .1 .1 .1 .0, entry (ran (counted c)) .pre .0))
+
+run-requires : tie.Need-run-requires
+run-requires c κs = search needs
+
+enum-known-refusal : tie.Need-enum-known-refusal
+enum-known-refusal c = search needs
+
+refusal-number-requires : tie.Need-refusal-number-requires
+refusal-number-requires c κs = search needs
+
+put-refused-requires : tie.Need-put-refused-requires
+put-refused-requires c κs = search needs
+
+enum-known-count : tie.Need-enum-known-count
+enum-known-count c = search needs
+
+read-words-requires : tie.Need-read-words-requires
+read-words-requires c κs = search needs
+
+slice-reshare-prefix-put-ran : tie.Need-slice-reshare-prefix-put-ran
+slice-reshare-prefix-put-ran c =
+    let x = c .before .before .before in
+    omega (arith, words-there x .1, x .read-words .kept .1 .1 .1 .1 .0, entry (ran (counted x)) .pre .0)
+
+slice-aggregate-put-ran : tie.Need-slice-aggregate-put-ran
+slice-aggregate-put-ran c = sym (as-many (c .before .before .before .before))
+
+put-ran-requires : tie.Need-put-ran-requires
+put-ran-requires c κs =
+    let x = c .before .before .before .before .before in
+    let r = ran (counted x) in
+    (omega (arith, as-many x, words-there x .1, entry r .pre .1), omega (arith, as-many x, words-there x .2, r .run .kept .1 .1 .1 .0))
+
+same-length : tie.Need-same-length
+same-length c = search needs
+
+same-length-2 : tie.Need-same-length-2
+same-length-2 c = search needs
+
+same-length-3 : tie.Need-same-length-3
+same-length-3 c = search needs
+
+same-length-4 : tie.Need-same-length-4
+same-length-4 c = search needs
+
+returns : tie.Need-returns
+returns c =
+    let w = c .before .before .put-refused in
+    let k = c .before .before .before in
+    let f = k .before .before .before in
+    let r = f .before .before .before .before .before .before .before .before in (
+      said (text-refused _ _ _ _ _ _ _ (f .refusal .given .0 .0) (f .refusal .given .0 .1 .0) _
+          (ap (λ (a : RunAnswer). runSays a (r .run .last .1 .0) (r .run .last .1 .1 .0) (r .run .last .1 .1 .1 .0)) (sym (f .refusal .given .1)) ∙ r .run .ensures)
+          (k .refusal-number .ensures)) (w .ensures .0),
+      w .ensures .1,
+    )
+
+same-length-5 : tie.Need-same-length-5
+same-length-5 c = search needs
+
+same-length-6 : tie.Need-same-length-6
+same-length-6 c = search needs
+
+same-length-7 : tie.Need-same-length-7
+same-length-7 c = search needs
+
+same-length-8 : tie.Need-same-length-8
+same-length-8 c = search needs
+
+same-length-9 : tie.Need-same-length-9
+same-length-9 c = search needs
+
+returns-2 : tie.Need-returns-2
+returns-2 c =
+    let w = c .before .before in
+    let x = w .before .before .before .before .before .before in
+    (said (text-ran _ _ _ _ _ _ _ _ _ _ (promised (counted x)) (words-there x .0)) (w .put-ran .ensures .0), w .put-ran .ensures .1)
+
+pub put-lines-spec : {M : Type 1} → statement M
+put-lines-spec =
+    tie.close
+    (tie.spec
+    run-requires
+    enum-known-refusal
+    refusal-number-requires
+    put-refused-requires
+    enum-known-count
+    read-words-requires
+    slice-reshare-prefix-put-ran
+    slice-aggregate-put-ran
+    put-ran-requires
+    same-length
+    same-length-2
+    same-length-3
+    same-length-4
+    returns
+    same-length-5
+    same-length-6
+    same-length-7
+    same-length-8
+    same-length-9
+    returns-2)

@@ -1,0 +1,27 @@
+-- `lamp::read_words` meets its contract. Assumes nothing.
+use mathlib.Core.Path.{_∙_}
+use Rattle.lamp.proofs.Text.{words-again}
+use borrow.Author.Needs.{needs}
+use Rattle.lamp.proofs.read_words.Statement.{statement}
+use Rattle.lamp.proofs.read_words.Tie as tie
+use Rattle.lamp.proofs.read_words.Reads as reads
+use Rattle.lamp.proofs.read_words.Lts as lts
+use Rattle.runlist.proofs.read_list.Reads as read-list-reads
+
+slice-aggregate-read-list : tie.Need-slice-aggregate-read-list
+slice-aggregate-read-list c = search needs
+
+read-list-requires : tie.Need-read-list-requires
+read-list-requires c κs = search needs
+
+same-length : tie.Need-same-length
+same-length c = search needs
+
+returns : tie.Need-returns
+returns c =
+    let r = c .before .before .before in
+    words-again _ _ _ _ _ (r .read-list .kept .1 .1 .1 .1 .1 .0 ∙ r .before .before .before .before .before .pre) (r .read-list .result) _ (r .read-list .ensures .0) (r .read-list .ensures .1)
+
+pub read-words-spec : {M : Type 1} → statement M
+read-words-spec =
+    tie.close (tie.spec slice-aggregate-read-list read-list-requires same-length returns)

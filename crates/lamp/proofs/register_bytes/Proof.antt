@@ -1,0 +1,25 @@
+-- `lamp::register_bytes` meets its contract. Assumes nothing.
+use mathlib.Core.Path.{ap, _∙_}
+use Rattle.lamp.specs.Lamp.{registerOf, registerBytes}
+use borrow.Author.Needs.{needs}
+use Rattle.lamp.proofs.register_bytes.Statement.{statement}
+use Rattle.lamp.proofs.register_bytes.Tie as tie
+use Rattle.lamp.proofs.register_bytes.Reads as reads
+use Rattle.lamp.proofs.register_bytes.Lts as lts
+use Rattle.lamp.proofs.register_of.Reads as register-of-reads
+use Rattle.numbers.proofs.read_number.Reads as read-number-reads
+
+read-number-requires : tie.Need-read-number-requires
+read-number-requires c κs = search needs
+
+register-of-requires : tie.Need-register-of-requires
+register-of-requires c κs = search needs
+
+returns : tie.Need-returns
+unfolding registerBytes
+returns c =
+    let r = c .register-of .ensures in
+    (r .0 ∙ ap registerOf (c .before .read-number .ensures), r .1)
+
+pub register-bytes-spec : {M : Type 1} → statement M
+register-bytes-spec = tie.close (tie.spec read-number-requires register-of-requires returns)

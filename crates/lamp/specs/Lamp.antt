@@ -1,0 +1,50 @@
+-- What the list program prints of a list (document 01, "The run list").
+use Prim.Native.Nat.{ℕ, _*_, _/_, _≤_}
+use mathlib.Core.Path.{_≡_}
+use mathlib.Core.Bool.{cond}
+use mathlib.Core.List.{List, []}
+use lib.Dec.{eqb}
+use lib.ListN.{length, take, replicate}
+use Rattle.settings.specs.Valid.{validLength}
+use Rattle.numbers.specs.Numbers.{numberAt}
+use Rattle.numbers.specs.declared.Read.{Read}
+use Rattle.numbers.specs.declared.Read.the-variants.{Number, Fault}
+use Rattle.runlist.specs.Plan.{Found, found, refused, Asked, mostWords, planOf}
+use Rattle.runlist.specs.RunList.{Ended, runPaper}
+use Rattle.lines.specs.Lines.{refusedLine, ranLines}
+
+-- the words of a list that is accepted
+unfoldable pub wordsOf : Found Asked → List ℕ
+wordsOf (found a) = a .words
+wordsOf (refused r p) = []
+
+-- the text of an answer: one line for a refused list; else `words`, a line for each word, and `total`
+unfoldable pub textOf : List ℕ → Ended → List ℕ
+textOf ws o =
+    cond (eqb (o .number) 0) (ranLines ws (o .report) (o .tally .toggled) (o .tally .written)) (refusedLine (o .number) (o .place))
+
+-- the text of what `run` answers, where Z, ZA and the report are lent
+unfoldable pub linesOf : List ℕ → List ℕ → List ℕ → List ℕ → List ℕ
+linesOf list z za report = textOf (wordsOf (planOf list (length z) (length za) (length report))) (runPaper list z za report)
+
+-- ---- what the program lends
+
+abbrev pub registerOf : Read → ℕ
+registerOf (Number vl next) = cond (validLength vl) (vl / 8) 0
+registerOf (Fault r p) = 0
+
+-- the bytes of a Z register, by the list's first number; 0 where that is no VL: such a list is refused before a length is tested
+unfoldable pub registerBytes : List ℕ → ℕ
+registerBytes list = registerOf (numberAt list 0)
+
+-- what is printed: Z, ZA and the report are zeros, as long as the list asks for
+unfoldable pub printed : List ℕ → List ℕ
+printed list =
+    linesOf list (replicate (32 * registerBytes list) 0) (replicate (registerBytes list * registerBytes list) 0) (replicate (3 * mostWords) 0)
+
+-- ---- only a contract uses this
+
+-- the words of an accepted list stand in front
+pub record WordsAgain (list : List ℕ) (z za room : ℕ) (words : List ℕ) : Type 0 where
+  pub in-front : (a : Asked) → planOf list z za room ≡ found a → take (length (a .words)) words ≡ a .words
+  pub few : (a : Asked) → planOf list z za room ≡ found a → (length (a .words) ≤ mostWords) × (3 * length (a .words) ≤ room)

@@ -1,0 +1,133 @@
+// The list program: reads a list from standard input to its end, runs it, and prints a line for each word.
+ghost use mathlib.Core.Path.{_≡_};
+ghost use Prim.Native.Nat.{_*_, _≤_};
+ghost use lib.ListN.{length, take};
+ghost use Rattle.lines.specs.Lines.{Wrote};
+ghost use Rattle.runlist.specs.Plan.{mostWords};
+ghost use Rattle.lamp.specs.Lamp.{linesOf, registerOf, registerBytes, printed, WordsAgain};
+use libc::STDIN_FILENO;
+use libc::STDOUT_FILENO;
+use numbers::Read;
+use runlist::RunAnswer;
+
+// No list of more than 7,194 bytes is accepted, and the first bytes of a longer one decide how it is refused
+// (`enough-read`). So no more of the input is kept.
+const INPUT: usize = 8192;
+
+// Z and ZA are at their longest at VL 512.
+const MOST_Z: usize = 2048;
+
+const MOST_ZA: usize = 4096;
+
+const REPORT: usize = 3 * runlist::MOST_WORDS;
+
+// Room for the lines of as many words as a list may have.
+const TEXT: usize = 98400;
+
+// The bytes of a Z register, by the list's first number. The lengths to lend must be known before the run.
+fn register_bytes(list: &[u8]) -> usize
+    ensures { λ r. ⌜ (r ≡ registerBytes (now (list .entry))) × (r ≤ 64) ⌝ }
+{
+    register_of(numbers::read_number(list, 0))
+}
+
+fn register_of(first: Read) -> usize
+    ensures { λ r. ⌜ (r ≡ registerOf first) × (r ≤ 64) ⌝ }
+{
+    match first {
+        Read::Number { value, next: _ } => {
+            if settings::valid_length(value) {
+                return (value / 8) as usize;
+            }
+            0
+        }
+        Read::Fault {
+            refusal: _,
+            place: _,
+        } => 0,
+    }
+}
+
+// The words of an accepted list, read again, since the report does not hold them.
+fn read_words(list: &[u8], z: usize, za: usize, room: usize, words: &mut [u32])
+    requires { ⌜ length (now words) ≡ mostWords ⌝ }
+    ensures { λ _. ⌜ WordsAgain (now (list .entry)) z za room (now (words .exit)) ⌝ }
+{
+    let mut head = [0u32; runlist::HEAD];
+    runlist::read_list(list, z, za, room, &mut head, words);
+}
+
+// Runs the list with what is lent, and puts the text of the answer into `out`.
+fn put_lines(
+    list: &[u8],
+    z: &mut [u8],
+    za: &mut [u8],
+    report: &mut [u32],
+    words: &mut [u32],
+    out: &mut [u8],
+) -> usize
+    requires { ⌜ (length (now words) ≡ mostWords) × (98400 ≤ length (now out)) ⌝ }
+    ensures { λ r. ⌜ Wrote (linesOf (now (list .entry)) (now (z .entry)) (now (za .entry)) (now (report .entry))) 0 (now (out .entry)) (now (out .exit)) r ⌝ }
+    ensures { λ r. ⌜ (r ≤ length (now (out .exit))) × (r ≡ length (take r (now (out .exit)))) ⌝ }
+{
+    match runlist::run(list, z, za, report) {
+        RunAnswer::Refused { refusal, place } => lines::put_refused(
+            out,
+            settings::refusal_number(refusal),
+            place,
+        ),
+        RunAnswer::Ran {
+            words: count,
+            tally,
+        } => {
+            read_words(list, z.len(), za.len(), report.len(), words);
+            lines::put_ran(out, &words[..count], report, tally.toggled, tally.written)
+        }
+    }
+}
+
+// What is to be printed of a list, into `out`.
+fn put_printed(list: &[u8], out: &mut [u8]) -> usize
+    requires { ⌜ 98400 ≤ length (now out) ⌝ }
+    ensures { λ r. ⌜ Wrote (printed (now (list .entry))) 0 (now (out .entry)) (now (out .exit)) r ⌝ }
+    ensures { λ r. ⌜ (r ≤ length (now (out .exit))) × (r ≡ length (take r (now (out .exit)))) ⌝ }
+{
+    let bytes = register_bytes(list);
+    let mut z = [0u8; MOST_Z];
+    let mut za = [0u8; MOST_ZA];
+    let mut report = [0u32; REPORT];
+    let mut words = [0u32; runlist::MOST_WORDS];
+    put_lines(
+        list,
+        &mut z[..32 * bytes],
+        &mut za[..bytes * bytes],
+        &mut report,
+        &mut words,
+        out,
+    )
+}
+
+fn read_some() -> bool {
+    let mut buffer = io::buffer();
+    libc::read(STDIN_FILENO, &mut buffer) > 0
+}
+
+// Reads the rest of the input, so that whoever writes it is not cut off. A proved loop has to end, and nothing says that
+// the input does: the turns are more than any run takes.
+fn read_to_end() {
+    let mut turns = u64::MAX;
+    while turns > 0 && read_some() {
+        turns -= 1;
+    }
+}
+
+fn main() {
+    let mut input = [0u8; INPUT];
+    let got = io::read_full(STDIN_FILENO, &mut input);
+    if got == INPUT {
+        read_to_end();
+    }
+    let mut out = [0u8; TEXT];
+    let length = put_printed(&input[..got], &mut out);
+    io::write_all(STDOUT_FILENO, &out[..length]);
+}
