@@ -1,6 +1,6 @@
 // The list program: reads a list from standard input to its end, runs it, and prints a line for each word.
 ghost use mathlib.Core.Path.{_≡_};
-ghost use Prim.Native.Nat.{_*_, _≤_};
+ghost use Prim.Native.Nat.{_+_, _*_, _≤_};
 ghost use lib.ListN.{length, take};
 ghost use Rattle.lines.specs.Lines.{Wrote};
 ghost use Rattle.runlist.specs.Plan.{mostWords};
@@ -22,7 +22,7 @@ const MOST_ZA: usize = 4096;
 const REPORT: usize = 3 * runlist::MOST_WORDS;
 
 // Room for the lines of as many words as a list may have.
-const TEXT: usize = 98400;
+const TEXT: usize = 96 + 96 * runlist::MOST_WORDS;
 
 // The bytes of a Z register, by the list's first number. The lengths to lend must be known before the run.
 fn register_bytes(list: &[u8]) -> usize
@@ -66,7 +66,7 @@ fn put_lines(
     words: &mut [u32],
     out: &mut [u8],
 ) -> usize
-    requires { ⌜ (length (now words) ≡ mostWords) × (98400 ≤ length (now out)) ⌝ }
+    requires { ⌜ (length (now words) ≡ mostWords) × (96 + 96 * mostWords ≤ length (now out)) ⌝ }
     ensures { λ r. ⌜ Wrote (linesOf (now (list .entry)) (now (z .entry)) (now (za .entry)) (now (report .entry))) 0 (now (out .entry)) (now (out .exit)) r ⌝ }
     ensures { λ r. ⌜ (r ≤ length (now (out .exit))) × (r ≡ length (take r (now (out .exit)))) ⌝ }
 {
@@ -88,7 +88,7 @@ fn put_lines(
 
 // What is to be printed of a list, into `out`.
 fn put_printed(list: &[u8], out: &mut [u8]) -> usize
-    requires { ⌜ 98400 ≤ length (now out) ⌝ }
+    requires { ⌜ 96 + 96 * mostWords ≤ length (now out) ⌝ }
     ensures { λ r. ⌜ Wrote (printed (now (list .entry))) 0 (now (out .entry)) (now (out .exit)) r ⌝ }
     ensures { λ r. ⌜ (r ≤ length (now (out .exit))) × (r ≡ length (take r (now (out .exit)))) ⌝ }
 {
