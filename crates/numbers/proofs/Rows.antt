@@ -14,7 +14,8 @@ use Rattle.settings.specs.declared.Refusal.the-variants.{ListEnds, BadNumber}
 use Rattle.numbers.specs.declared.Read.{Read}
 use Rattle.numbers.specs.declared.Read.the-variants.{Number, Fault}
 use Rattle.numbers.specs.declared.Row.the-variants as row
-use Rattle.numbers.specs.Numbers.{numberAt, Numbers, all, fault, joined, more, numbersAt, valuesOf, rowOf, filled}
+use Rattle.numbers.specs.Numbers.{numberAt, put, Numbers, all, fault, joined, more, numbersAt, valuesOf, rowOf, filled}
+use Rattle.numbers.proofs.Shortest.{put-length}
 use Rattle.numbers.proofs.Places.{number-kept, bad-kept, number-far, number-within, number-fault}
 
 -- ---- the last number of a row
@@ -168,6 +169,35 @@ row-fault-within list at (suc n) vs k p h e =
     let here = number-fault list (f .place) k p (f .number) .0 in
     (omega arith, omega arith, omega arith))
     (fault-of list (numbersAt list at n) vs k p e)
+
+-- the bytes of the shortest forms of these numbers, together
+unfoldable pub putLengths : List ℕ → ℕ
+putLengths [] = 0
+putLengths (w ∷ ws) = length (put w) + putLengths ws
+
+put-lengths-last : (ws : List ℕ) (w : ℕ) → putLengths (ws ++ w ∷ []) ≡ putLengths ws + length (put w)
+unfolding putLengths
+put-lengths-last [] w = omega arith
+put-lengths-last (x ∷ ws) w = omega (arith, put-lengths-last ws w)
+
+-- each has at most five
+pub put-lengths-few : (ws : List ℕ) → putLengths ws ≤ 5 * length ws
+unfolding putLengths
+put-lengths-few [] = omega arith
+put-lengths-few (w ∷ ws) = omega (arith, put-length w, put-lengths-few ws)
+
+-- the place after a row is that after the shortest forms of its numbers
+pub row-place : (list : List ℕ) (at n : ℕ) (ws : List ℕ) (p : ℕ) → numbersAt list at n ≡ all ws p → p ≡ at + putLengths ws
+unfolding numbersAt putLengths
+row-place list at zero ws p e =
+    let here : at ≡ p = cc in
+    let none : [] ≡ ws = cc in
+    omega (arith, ap putLengths none)
+row-place list at (suc n) ws p e =
+    let l = last-of list (numbersAt list at n) ws p e in
+    let w = number-within list (l .place) (l .value) p (l .number) in
+    let b = row-place list at n (l .before) (l .place) (l .row) in
+    omega (arith, w .long, ap putLengths (l .numbers), put-lengths-last (l .before) (l .value))
 
 -- ---- what an answer of read_numbers says
 
