@@ -1,3 +1,5 @@
 pub mod Plans
+pub mod Lists
+pub mod Theorems
 pub mod Runs
 pub mod Answers

@@ -1,7 +1,7 @@
 -- What a list asks for, by the tests that the code makes. Assumes nothing.
 use Prim.Native.Nat.{ℕ, _+_, _*_, _<_, _≤_}
 use native.Mathlib.Omega.{arith}
-use mathlib.Core.Path.{_≡_, refl, sym, ap, ap₂, _∙_, subst}
+use mathlib.Core.Path.{_≡_, refl, sym, ap, _∙_, subst}
 use mathlib.Core.Bool.{true, false}
 use mathlib.Core.Logic.{_≢_}
 use mathlib.Core.List.{List, _++_}
@@ -10,16 +10,16 @@ use lib.ListN.{length, take, drop}
 use lib.Seq.{take-all, take-append-le}
 use borrow.Author.Tests.{lt-leb, le-leb, eq-eqb, ne-eqb, eqb-true}
 use Rattle.laws.proofs.Tests.{both}
-use Rattle.settings.specs.Valid.{validSettings, vectorBytes, arrayBytes}
+use Rattle.settings.specs.Valid.{validSettings, arrayBytes}
 use Rattle.settings.specs.declared.Refusal.{Refusal}
 use Rattle.settings.specs.declared.Refusal.the-variants.{BadSettings, BadLength, ListEnds, TooManyWords, ExtraBytes}
 use Rattle.settings.specs.declared.Settings.{Settings}
-use Rattle.numbers.specs.Numbers.{Numbers, all, fault, numberAt, numbersAt, valuesOf, rowOf, filled}
+use Rattle.numbers.specs.Numbers.{Numbers, numberAt, numbersAt, valuesOf, rowOf, filled}
 use Rattle.numbers.specs.declared.Read.the-variants.{Number, Fault}
 use Rattle.numbers.specs.declared.Row.the-variants as row
 use Rattle.numbers.proofs.Rows.{told-all, told-fault, filled-all, row-within}
 use Rattle.machine.specs.Execute.{rightLengths}
-use Rattle.runlist.specs.Plan.{Found, found, refused, Asked, mostWords, endedAt, wordsFrom, asking, zLength, zFrom, settledFrom, settingsOf, headed, planOf}
+use Rattle.runlist.specs.Plan.{found, refused, mostWords, endedAt, wordsFrom, asking, zLength, zFrom, settledFrom, settingsOf, headed, planOf}
 use Rattle.runlist.specs.Plan.{wordsSay, AtMost, WordsFit, planSays, PlanFits}
 use Rattle.runlist.specs.declared.Words.{Words}
 use Rattle.runlist.specs.declared.Words.the-variants as words
@@ -81,7 +81,7 @@ words-fit (words.Refused k p) n room a h l = tt
 
 -- ---- the settings, the lengths and the Z bytes
 
-z-right : (s : Settings) (z za : ℕ) → rightLengths s z za ≡ true → zLength s ≡ z
+pub z-right : (s : Settings) (z za : ℕ) → rightLengths s z za ≡ true → zLength s ≡ z
 z-right s z za e = sym (eqb-true z (zLength s) (both (eqb z (zLength s)) (eqb za (arrayBytes s * arrayBytes s)) e .0))
 
 module _ (list : List ℕ) (z za room : ℕ) where
