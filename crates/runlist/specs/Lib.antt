@@ -1,3 +1,4 @@
 pub mod Plan
 pub mod RunList
 pub mod Theorems
+pub mod Examples
