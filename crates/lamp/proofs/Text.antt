@@ -15,6 +15,7 @@ use Rattle.runlist.specs.RunList.{Ended, carriedOut, runPaper, runSays, RunProm
 use Rattle.runlist.specs.declared.Plan.{Plan}
 use Rattle.runlist.specs.declared.Plan.the-variants as plan
 use Rattle.runlist.specs.declared.RunAnswer.the-variants.{Ran, Refused}
+use Rattle.runlist.proofs.Theorems.{lengths-hold}
 use Rattle.lines.specs.Lines.{refusedLine, ranLines}
 use Rattle.lamp.specs.Lamp.{wordsOf, textOf, linesOf, WordsAgain}
 
@@ -26,19 +27,11 @@ module _ (list : List ℕ) (z za room : ℕ) (ws : List ℕ) (l : length ws ≡ 
   told at n head e a q = ap wordsOf (e ∙ q)
 
   pub words-again : (r : Plan) (head : List ℕ) → planSays r list z head ws ≡ planOf list z za room → PlanFits r (length list) z room → WordsAgain list z za room ws
-  words-again (plan.Go at n) head e f =
-      let long : length (take n ws) ≡ n = length-take-le n ws (omega (arith, f .1, l)) in
-      record {
-        in-front = λ a q. ap (λ (k : ℕ). take k ws) (sym (ap length (told at n head e a q)) ∙ long) ∙ told at n head e a q;
-        few = λ a q.
-            let k : length (a .words) ≡ n = sym (ap length (told at n head e a q)) ∙ long in
-            (omega (arith, k, f .1), omega (arith, k, f .2));
-      }
-  words-again (plan.Refused r p) head e f =
-      record {
-        in-front = λ a q. let no : refused r p ≡ found a = e ∙ q in let no-such : _≡_ {A = ℕ} 0 1 = cc in absurd (omega arith);
-        few = λ a q. let no : refused r p ≡ found a = e ∙ q in let no-such : _≡_ {A = ℕ} 0 1 = cc in absurd (omega arith);
-      }
+  words-again (plan.Go at n) head e f a q =
+      let is : take n ws ≡ a .words = told at n head e a q in
+      let long : length (a .words) ≡ n = sym (ap length is) ∙ length-take-le n ws (omega (arith, f .1, l)) in
+      ap (λ (k : ℕ). take k ws) long ∙ is
+  words-again (plan.Refused r p) head e f a q = let no : refused r p ≡ found a = e ∙ q in let no-such : _≡_ {A = ℕ} 0 1 = cc in absurd (omega arith)
 
 -- ---- a list that ran was accepted
 
@@ -77,8 +70,8 @@ pub front : (list : List ℕ) (z za room n : ℕ) (ws : List ℕ) (a : RanOf (pl
     → (take n ws ≡ wordsOf (planOf list z za room)) × (n ≤ mostWords) × (3 * n ≤ room)
 unfolding wordsOf
 front list z za room n ws a w =
-    let few = w .few (a .asked) (a .is) in (
-      ap (λ (k : ℕ). take k ws) (a .count) ∙ w .in-front (a .asked) (a .is) ∙ ap wordsOf (sym (a .is)),
-      omega (arith, a .count, few .0),
-      omega (arith, a .count, few .1),
+    let fits = lengths-hold list z za room (a .asked) (a .is) in (
+      ap (λ (k : ℕ). take k ws) (a .count) ∙ w (a .asked) (a .is) ∙ ap wordsOf (sym (a .is)),
+      omega (arith, a .count, fits .few),
+      omega (arith, a .count, fits .reported),
     )

@@ -1,5 +1,5 @@
 -- What the list program prints of a list (document 01, "The run list").
-use Prim.Native.Nat.{ℕ, _*_, _/_, _≤_}
+use Prim.Native.Nat.{ℕ, _*_, _/_}
 use mathlib.Core.Path.{_≡_}
 use mathlib.Core.Bool.{cond}
 use mathlib.Core.List.{List, []}
@@ -45,6 +45,5 @@ printed list =
 -- ---- only a contract uses this
 
 -- the words of an accepted list stand in front
-pub record WordsAgain (list : List ℕ) (z za room : ℕ) (words : List ℕ) : Type 0 where
-  pub in-front : (a : Asked) → planOf list z za room ≡ found a → take (length (a .words)) words ≡ a .words
-  pub few : (a : Asked) → planOf list z za room ≡ found a → (length (a .words) ≤ mostWords) × (3 * length (a .words) ≤ room)
+abbrev pub WordsAgain : List ℕ → ℕ → ℕ → ℕ → List ℕ → Type 0
+WordsAgain list z za room words = (a : Asked) → planOf list z za room ≡ found a → take (length (a .words)) words ≡ a .words

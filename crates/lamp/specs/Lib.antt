@@ -1,1 +1,3 @@
 pub mod Lamp
+pub mod Theorems
+pub mod Examples

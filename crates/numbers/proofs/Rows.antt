@@ -6,7 +6,7 @@ use mathlib.Core.List.{List, [], _∷_, _++_, append-nil}
 use native.Mathlib.Omega.{arith}
 use native.Mathlib.Nat.{add-zero, add-suc}
 use native.Mathlib.Numerals.{add-one}
-use lib.ListN.{length, take, drop, set, length-append, length-set, take-append-drop}
+use lib.ListN.{length, getD, take, drop, set, length-append, length-set, take-append-drop}
 use lib.Seq.{drop-length, length-take-le, take-suc-set, drop-set-lt, drop-drop}
 use Rattle.laws.proofs.Lists.{Each}
 use Rattle.settings.specs.declared.Refusal.{Refusal}
@@ -94,6 +94,26 @@ row-within list at (suc n) ws p h e =
     let w = number-within list (l .place) (l .value) p (l .number) in
     let b = row-within list at n (l .before) (l .place) h (l .row) in
     (row-count list at (suc n) ws p e, omega arith, w .inside, omega arith)
+
+first-stays : (ws : List ℕ) (w : ℕ) → 0 < length ws → getD (ws ++ w ∷ []) 0 0 ≡ getD ws 0 0
+first-stays [] w h = absurd (omega arith)
+first-stays (x ∷ ws) w h = refl
+
+-- the first number of a row stands at the row's place
+pub row-first : (list : List ℕ) (at n : ℕ) (ws : List ℕ) (p : ℕ) → numbersAt list at (suc n) ≡ all ws p → (q : ℕ) × (numberAt list at ≡ Number (getD ws 0 0) q)
+unfolding numbersAt
+row-first list at zero ws p e =
+    let l = last-of list (all [] at) ws p e in
+    let none : [] ≡ l .before = cc in
+    let here : at ≡ l .place = cc in
+    let value : getD ws 0 0 ≡ l .value = ap (λ (x : List ℕ). getD x 0 0) (l .numbers ∙ ap (λ (x : List ℕ). x ++ l .value ∷ []) (sym none)) in
+    (p, ap (numberAt list) here ∙ l .number ∙ ap (λ (v : ℕ). Number v p) (sym value))
+row-first list at (suc n) ws p e =
+    let l = last-of list (numbersAt list at (suc n)) ws p e in
+    let b = row-first list at n (l .before) (l .place) (l .row) in
+    let some : 0 < length (l .before) = omega (arith, row-count list at (suc n) (l .before) (l .place) (l .row)) in
+    let same : getD ws 0 0 ≡ getD (l .before) 0 0 = ap (λ (x : List ℕ). getD x 0 0) (l .numbers) ∙ first-stays (l .before) (l .value) some in
+    (b .0, b .1 ∙ ap (λ (v : ℕ). Number v (b .0)) (sym same))
 
 each-last : (ws : List ℕ) (w : ℕ) → Each (λ x. x < 2 ^ 32) ws → w < 2 ^ 32 → Each (λ x. x < 2 ^ 32) (ws ++ w ∷ [])
 each-last [] w e h = (h, tt)
