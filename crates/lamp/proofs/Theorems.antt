@@ -3,8 +3,8 @@ use Prim.Native.Nat.{ℕ, _+_, _*_, _/_, _<_}
 use native.Mathlib.Omega.{arith}
 use mathlib.Core.Path.{_≡_, refl, sym, ap, ap₂, _∙_, subst}
 use mathlib.Core.Logic.{_≢_, _⊎_, ⊎-elim}
-use mathlib.Core.Bool.{Bool, true, false, _&&_, cond}
-use mathlib.Core.List.{List, _++_}
+use mathlib.Core.Bool.{true, _&&_}
+use mathlib.Core.List.{List}
 use lib.Dec.{eqb, leb}
 use lib.ListN.{length, getD, take, drop, replicate, take-append-drop}
 use lib.Seq.{take-all, length-take-le}
@@ -20,8 +20,7 @@ use Rattle.numbers.specs.declared.Read.the-variants.{Number, Fault}
 use Rattle.numbers.proofs.Places.{number-far, number-fault}
 use Rattle.numbers.proofs.Rows.{row-first, row-fault}
 use Rattle.machine.specs.Execute.{rightLengths}
-use Rattle.runlist.specs.Plan.{Found, found, refused, Asked, mostWords, endedAt, counted, wordsFrom, asking, zLength, zFrom, settledFrom, settingsOf, headed, planOf}
-use Rattle.runlist.specs.RunList.{Ended, runPaper}
+use Rattle.runlist.specs.Plan.{Found, found, refused, mostWords, endedAt, counted, wordsFrom, asking, zLength, zFrom, settledFrom, settingsOf, headed, planOf}
 use Rattle.runlist.specs.Theorems.{longest}
 use Rattle.runlist.proofs.Theorems.{enough-bytes, run-of-enough}
 use Rattle.lamp.specs.Lamp.{wordsOf, textOf, linesOf, registerOf, registerBytes, printed}

@@ -1,6 +1,6 @@
 -- Document 01's lines, and those of no words.
 use mathlib.Core.Path.{_≡_, refl}
-use mathlib.Core.List.{List, [], _∷_, _++_}
+use mathlib.Core.List.{[], _∷_, _++_}
 use Rattle.lines.specs.Lines.{text, digits, decimalUpTo, decimal, hex8, refusedLine, countsAfter, outcome, wordLine, wordLines, wordsLine, totalLine, ranLines}
 
 refused-at-once : refusedLine 7 0 ≡ text "refused 7 at 0\n"

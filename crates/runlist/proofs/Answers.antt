@@ -6,7 +6,6 @@ use mathlib.Core.List.{List}
 use Rattle.settings.specs.Refused.{refusalNumber}
 use Rattle.settings.specs.declared.Refusal.{Refusal}
 use Rattle.settings.proofs.Refusals.{refusal-known, refusal-not-0}
-use Rattle.tally.specs.declared.Tally.{Tally}
 use Rattle.runlist.specs.RunList.{Ended, runSays, RunPromise}
 use Rattle.runlist.specs.declared.RunAnswer.{RunAnswer}
 use Rattle.runlist.specs.declared.RunAnswer.the-variants.{Ran, Refused}

@@ -14,13 +14,6 @@ use Rattle.lamp.proofs.Text.{accepted, front, text-ran, text-refused}
 use borrow.Author.Needs.{needs}
 use Rattle.lamp.proofs.put_lines.Statement.{statement}
 use Rattle.lamp.proofs.put_lines.Tie as tie
-use Rattle.lamp.proofs.put_lines.Reads as reads
-use Rattle.lamp.proofs.put_lines.Lts as lts
-use Rattle.lamp.proofs.read_words.Reads as read-words-reads
-use Rattle.lines.proofs.put_ran.Reads as put-ran-reads
-use Rattle.lines.proofs.put_refused.Reads as put-refused-reads
-use Rattle.runlist.proofs.run.Reads as run-reads
-use Rattle.settings.proofs.refusal_number.Reads as refusal-number-reads
 
 -- the places that the answers speak of: the entry, the run, and what was counted
 abbrev entry : tie.After-run → tie.Start

@@ -8,10 +8,6 @@ use Rattle.lamp.proofs.Lent.{square, as-printed}
 use borrow.Author.Needs.{needs}
 use Rattle.lamp.proofs.put_printed.Statement.{statement}
 use Rattle.lamp.proofs.put_printed.Tie as tie
-use Rattle.lamp.proofs.put_printed.Reads as reads
-use Rattle.lamp.proofs.put_printed.Lts as lts
-use Rattle.lamp.proofs.put_lines.Reads as put-lines-reads
-use Rattle.lamp.proofs.register_bytes.Reads as register-bytes-reads
 
 register-bytes-requires : tie.Need-register-bytes-requires
 register-bytes-requires c κs = search needs

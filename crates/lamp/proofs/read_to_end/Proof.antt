@@ -2,9 +2,6 @@
 use native.Mathlib.Omega.{arith}
 use Rattle.lamp.proofs.read_to_end.Statement.{statement}
 use Rattle.lamp.proofs.read_to_end.Tie as tie
-use Rattle.lamp.proofs.read_to_end.Reads as reads
-use Rattle.lamp.proofs.read_to_end.Lts as lts
-use Rattle.lamp.proofs.read_some.Reads as read-some-reads
 
 abbrev Inv-loop : tie.InvT-loop
 Inv-loop turns₀ turns = Unit {0}

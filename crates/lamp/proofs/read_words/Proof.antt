@@ -4,9 +4,6 @@ use Rattle.lamp.proofs.Text.{words-again}
 use borrow.Author.Needs.{needs}
 use Rattle.lamp.proofs.read_words.Statement.{statement}
 use Rattle.lamp.proofs.read_words.Tie as tie
-use Rattle.lamp.proofs.read_words.Reads as reads
-use Rattle.lamp.proofs.read_words.Lts as lts
-use Rattle.runlist.proofs.read_list.Reads as read-list-reads
 
 slice-aggregate-read-list : tie.Need-slice-aggregate-read-list
 slice-aggregate-read-list c = search needs

@@ -4,10 +4,6 @@ use Rattle.lamp.specs.Lamp.{registerOf, registerBytes}
 use borrow.Author.Needs.{needs}
 use Rattle.lamp.proofs.register_bytes.Statement.{statement}
 use Rattle.lamp.proofs.register_bytes.Tie as tie
-use Rattle.lamp.proofs.register_bytes.Reads as reads
-use Rattle.lamp.proofs.register_bytes.Lts as lts
-use Rattle.lamp.proofs.register_of.Reads as register-of-reads
-use Rattle.numbers.proofs.read_number.Reads as read-number-reads
 
 read-number-requires : tie.Need-read-number-requires
 read-number-requires c κs = search needs

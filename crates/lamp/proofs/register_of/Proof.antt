@@ -4,9 +4,6 @@ use Rattle.lamp.proofs.Lent.{register-valid, register-not}
 use borrow.Author.Needs.{needs}
 use Rattle.lamp.proofs.register_of.Statement.{statement}
 use Rattle.lamp.proofs.register_of.Tie as tie
-use Rattle.lamp.proofs.register_of.Reads as reads
-use Rattle.lamp.proofs.register_of.Lts as lts
-use Rattle.settings.proofs.valid_length.Reads as valid-length-reads
 
 enum-known-first : tie.Need-enum-known-first
 enum-known-first c = search needs

@@ -1,5 +1,5 @@
 -- `lines::places` meets its contract. The invariant: what is counted and the digits of the rest are one more than the number's digits. Assumes nothing.
-use Prim.Native.Nat.{suc, _+_, _^_, _≤_, _<_}
+use Prim.Native.Nat.{suc, _+_, _≤_}
 use native.Mathlib.Omega.{arith}
 use mathlib.Core.Path.{_≡_}
 use borrow.Author.Needs.{needs}

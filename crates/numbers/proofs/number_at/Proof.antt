@@ -12,8 +12,6 @@ use Rattle.numbers.proofs.Groups.{fits-fifth, fits-other, fifth-great, 
 use Rattle.numbers.proofs.Turns.{Reading, start, byte-first, Follows, follows, last-fits, out-ends, out-wrong, out-read, turn}
 use Rattle.numbers.proofs.number_at.Statement.{statement}
 use Rattle.numbers.proofs.number_at.Tie as tie
-use Rattle.numbers.proofs.number_at.Reads as reads
-use Rattle.numbers.proofs.number_at.Lts as lts
 
 abbrev Inv-loop : tie.InvT-loop
 Inv-loop list at i₀ groups₀ scale₀ value₀ i groups scale value = Reading list at i groups scale value

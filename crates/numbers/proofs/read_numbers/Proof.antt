@@ -6,9 +6,6 @@ use borrow.Author.Needs.{needs}
 use Rattle.numbers.proofs.Rows.{Filling, begin, one-more, out-fault, out-all}
 use Rattle.numbers.proofs.read_numbers.Statement.{statement}
 use Rattle.numbers.proofs.read_numbers.Tie as tie
-use Rattle.numbers.proofs.read_numbers.Reads as reads
-use Rattle.numbers.proofs.read_numbers.Lts as lts
-use Rattle.numbers.proofs.read_number.Reads as read-number-reads
 
 abbrev Inv-loop : tie.InvT-loop
 Inv-loop list at out₀ due₀ i₀ out due i = Filling list at out₀ out due i

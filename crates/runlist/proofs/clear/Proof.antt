@@ -1,16 +1,14 @@
 -- `runlist::clear` meets its contract. The invariant: the first i bytes are 0. Assumes nothing.
-use mathlib.Core.Path.{_≡_, refl, sym, ap, _∙_}
-use Prim.Native.Nat.{ℕ, _+_, _-_, _<_, _≤_}
+use mathlib.Core.Path.{_≡_, _∙_}
+use Prim.Native.Nat.{_+_, _-_, _<_, _≤_}
 use native.Mathlib.Omega.{arith}
 use mathlib.Core.List.{_++_, append-nil}
 use borrow.Author.Needs.{needs}
-use borrow.Author.Fill.{fill-none, fill-more}
-use lib.ListN.{length, drop, set, replicate, length-set}
+use borrow.Author.Fill.{fill-more}
+use lib.ListN.{length, drop, replicate, length-set}
 use lib.Seq.{drop-length}
 use Rattle.runlist.proofs.clear.Statement.{statement}
 use Rattle.runlist.proofs.clear.Tie as tie
-use Rattle.runlist.proofs.clear.Reads as reads
-use Rattle.runlist.proofs.clear.Lts as lts
 
 abbrev Inv-loop : tie.InvT-loop
 Inv-loop bytes₀ i₀ bytes i = (i ≤ length bytes) × (length bytes ≡ length bytes₀) × (bytes ≡ replicate i 0 ++ drop i bytes₀)

@@ -1,15 +1,13 @@
 -- `runlist::copy` meets its contract. The invariant: the first i bytes are those of `from`. Assumes nothing.
-use mathlib.Core.Path.{_≡_, refl, sym, ap, _∙_}
-use Prim.Native.Nat.{ℕ, _+_, _-_, _<_, _≤_}
+use mathlib.Core.Path.{_≡_, sym, _∙_}
+use Prim.Native.Nat.{_-_, _<_, _≤_}
 use native.Mathlib.Omega.{arith}
 use native.Mathlib.Numerals.{add-one}
 use borrow.Author.Needs.{needs}
-use lib.ListN.{length, getD, take, drop, set, length-set, length-drop}
+use lib.ListN.{length, take, drop, length-set, length-drop}
 use lib.Seq.{take-suc, take-suc-set, take-length, getD-drop}
 use Rattle.runlist.proofs.copy.Statement.{statement}
 use Rattle.runlist.proofs.copy.Tie as tie
-use Rattle.runlist.proofs.copy.Reads as reads
-use Rattle.runlist.proofs.copy.Lts as lts
 
 abbrev Inv-loop : tie.InvT-loop
 Inv-loop from at to₀ i₀ to i = (i ≤ length to) × (length to ≡ length to₀) × (take i to ≡ take i (drop at from))

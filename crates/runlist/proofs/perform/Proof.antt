@@ -1,19 +1,13 @@
 -- `runlist::perform` meets its contract. The invariant: i words are done, and what is left of the run makes up the whole of it (`Running`). Assumes nothing.
 use Prim.Native.Nat.{_+_, _-_, _*_, _≤_}
 use native.Mathlib.Omega.{arith}
-use mathlib.Core.Path.{_≡_, refl, sym, _∙_}
+use mathlib.Core.Path.{_≡_, refl, _∙_}
 use lib.ListN.{length, getD}
 use Rattle.machine.specs.Execute.{executePaper}
 use borrow.Author.Needs.{needs}
 use Rattle.runlist.proofs.Runs.{Running, starting, Turned, turned, counts-small, turn, finished}
 use Rattle.runlist.proofs.perform.Statement.{statement}
 use Rattle.runlist.proofs.perform.Tie as tie
-use Rattle.runlist.proofs.perform.Reads as reads
-use Rattle.runlist.proofs.perform.Lts as lts
-use Rattle.machine.proofs.execute.Reads as execute-reads
-use Rattle.runlist.proofs.put_report.Reads as put-report-reads
-use Rattle.runlist.proofs.report_of.Reads as report-of-reads
-use Rattle.tally.proofs.counted.Reads as counted-reads
 
 abbrev Inv-loop : tie.InvT-loop
 Inv-loop settings words z₀ za₀ report₀ tally₀ i₀ z za report tally i =

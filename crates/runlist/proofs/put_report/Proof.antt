@@ -6,8 +6,6 @@ use Rattle.runlist.proofs.Runs.{stored}
 use borrow.Author.Needs.{needs}
 use Rattle.runlist.proofs.put_report.Statement.{statement}
 use Rattle.runlist.proofs.put_report.Tie as tie
-use Rattle.runlist.proofs.put_report.Reads as reads
-use Rattle.runlist.proofs.put_report.Lts as lts
 
 mul-report : tie.Need-mul-report
 mul-report c = search needs

@@ -15,13 +15,6 @@ use Rattle.runlist.proofs.Plans.{whole-row, whole-inside, no-head, sett
 use borrow.Author.Needs.{needs}
 use Rattle.runlist.proofs.read_list.Statement.{statement}
 use Rattle.runlist.proofs.read_list.Tie as tie
-use Rattle.runlist.proofs.read_list.Reads as reads
-use Rattle.runlist.proofs.read_list.Lts as lts
-use Rattle.machine.proofs.right_lengths.Reads as right-lengths-reads
-use Rattle.numbers.proofs.read_numbers.Reads as read-numbers-reads
-use Rattle.runlist.proofs.read_words.Reads as read-words-reads
-use Rattle.runlist.proofs.settings_of.Reads as settings-of-reads
-use Rattle.settings.proofs.Settings.valid.Reads as valid-reads
 
 -- the places that the answers speak of: the entry, the numbers in front, their end, the settings
 abbrev entry : tie.After-read-numbers → tie.Start

@@ -10,9 +10,6 @@ use Rattle.runlist.proofs.Plans.{fault-ends, extra-ends, found-ends, wh
 use borrow.Author.Needs.{needs}
 use Rattle.runlist.proofs.read_to_end.Statement.{statement}
 use Rattle.runlist.proofs.read_to_end.Tie as tie
-use Rattle.runlist.proofs.read_to_end.Reads as reads
-use Rattle.runlist.proofs.read_to_end.Lts as lts
-use Rattle.numbers.proofs.read_numbers.Reads as read-numbers-reads
 
 -- the list, and the row that was read
 abbrev entry : tie.After-read-numbers → tie.Start

@@ -12,10 +12,6 @@ use Rattle.runlist.proofs.Plans.{no-count, too-many, no-room, counted-w
 use borrow.Author.Needs.{needs}
 use Rattle.runlist.proofs.read_words.Statement.{statement}
 use Rattle.runlist.proofs.read_words.Tie as tie
-use Rattle.runlist.proofs.read_words.Reads as reads
-use Rattle.runlist.proofs.read_words.Lts as lts
-use Rattle.numbers.proofs.read_number.Reads as read-number-reads
-use Rattle.runlist.proofs.read_to_end.Reads as read-to-end-reads
 
 -- the places that the answers speak of: the entry, the count, and the words' row
 abbrev entry : tie.After-value → tie.Start

@@ -8,9 +8,6 @@ use Rattle.machine.specs.declared.Executed.{Executed}
 use borrow.Author.Needs.{needs}
 use Rattle.runlist.proofs.report_of.Statement.{statement}
 use Rattle.runlist.proofs.report_of.Tie as tie
-use Rattle.runlist.proofs.report_of.Reads as reads
-use Rattle.runlist.proofs.report_of.Lts as lts
-use Rattle.settings.proofs.refusal_number.Reads as refusal-number-reads
 
 enum-known-executed : tie.Need-enum-known-executed
 enum-known-executed c = search needs

@@ -13,13 +13,6 @@ use Rattle.runlist.proofs.Runs.{not-run, is-run}
 use borrow.Author.Needs.{needs}
 use Rattle.runlist.proofs.run.Statement.{statement}
 use Rattle.runlist.proofs.run.Tie as tie
-use Rattle.runlist.proofs.run.Reads as reads
-use Rattle.runlist.proofs.run.Lts as lts
-use Rattle.runlist.proofs.clear.Reads as clear-reads
-use Rattle.runlist.proofs.copy.Reads as copy-reads
-use Rattle.runlist.proofs.perform.Reads as perform-reads
-use Rattle.runlist.proofs.read_list.Reads as read-list-reads
-use Rattle.runlist.proofs.settings_of.Reads as settings-of-reads
 
 -- the places that the answers speak of: the entry, the plan, and where it goes on
 abbrev entry : tie.After-read-list → tie.Start

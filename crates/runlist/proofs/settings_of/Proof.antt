@@ -4,8 +4,6 @@ use Rattle.runlist.specs.Plan.{settingsOf}
 use borrow.Author.Needs.{needs}
 use Rattle.runlist.proofs.settings_of.Statement.{statement}
 use Rattle.runlist.proofs.settings_of.Tie as tie
-use Rattle.runlist.proofs.settings_of.Reads as reads
-use Rattle.runlist.proofs.settings_of.Lts as lts
 
 shared-slice-read-t3 : tie.Need-shared-slice-read-t3
 shared-slice-read-t3 c = search needs
