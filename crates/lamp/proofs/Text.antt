@@ -8,7 +8,7 @@ use lib.Seq.{length-take-le}
 use borrow.Author.Tests.{ne-eqb}
 use Rattle.settings.specs.Refused.{refusalNumber}
 use Rattle.settings.specs.declared.Refusal.{Refusal}
-use Rattle.settings.proofs.Refusals.{refusal-not-0}
+use Rattle.settings.proofs.Refusals.{not-0}
 use Rattle.tally.specs.declared.Tally.{Tally}
 use Rattle.runlist.specs.Plan.{Found, found, refused, Asked, mostWords, planOf, planSays, PlanFits}
 use Rattle.runlist.specs.RunList.{Ended, carriedOut, runPaper, runSays, RunPromise}
@@ -43,8 +43,7 @@ pub record RanOf (f : Found Asked) (n : ℕ) : Type 0 where
 ran-of : (f : Found Asked) (n : ℕ) (t : Tally) (z za report z′ za′ report′ : List ℕ) → runSays (Ran n t) z′ za′ report′ ≡ carriedOut f z za report → RanOf f n
 ran-of (found a) n t z za report z′ za′ report′ e = record { asked = a; is = refl; count = ap (λ (o : Ended). o .words) e }
 ran-of (refused r p) n t z za report z′ za′ report′ e =
-    let no : 0 ≡ refusalNumber r = ap (λ (o : Ended). o .number) e in
-    absurd (omega (arith, refusal-not-0 r))
+    absurd (not-0 r (sym (ap (λ (o : Ended). o .number) e)))
 
 module _ (list z za report z′ za′ report′ : List ℕ) where
   pub accepted : (n : ℕ) (t : Tally) → RunPromise list z za report (Ran n t) z′ za′ report′ → RanOf (planOf list (length z) (length za) (length report)) n
@@ -62,7 +61,7 @@ module _ (list z za report z′ za′ report′ : List ℕ) where
   unfolding linesOf textOf
   text-refused r p n e k =
       ap (λ (m : ℕ). refusedLine m p) k
-      ∙ sym (rw (ne-eqb (refusalNumber r) 0 (λ (q : refusalNumber r ≡ 0). omega (arith, refusal-not-0 r))))
+      ∙ sym (rw (ne-eqb (refusalNumber r) 0 (not-0 r)))
       ∙ ap (textOf (wordsOf (planOf list (length z) (length za) (length report)))) e
 
 -- the words in front are those of the list

@@ -1,12 +1,9 @@
 -- What the promise of execute determines: the answer, and Z and ZA at the end. Assumes nothing.
 use Prim.Native.Nat.{ℕ}
-use native.Mathlib.Omega.{arith}
 use mathlib.Core.Path.{_≡_, refl, sym, ap, ap₂, _∙_}
 use mathlib.Core.List.{List}
-use Rattle.settings.specs.Refused.{refusalNumber}
 use Rattle.settings.specs.declared.Settings.{Settings}
-use Rattle.settings.specs.declared.Refusal.{Refusal}
-use Rattle.settings.proofs.Refusals.{refusal-known, refusal-not-0}
+use Rattle.settings.proofs.Refusals.{refusal-known, not-0}
 use Rattle.machine.specs.Execute.{Outcome, executedSays, executePaper}
 use Rattle.machine.specs.declared.Counts.{Counts}
 use Rattle.machine.specs.declared.Executed.{Executed}
@@ -14,10 +11,6 @@ use Rattle.machine.specs.declared.Executed.the-variants.{Done, Refused}
 
 number : Outcome → ℕ
 number o = o .number
-
--- a refusal does not say the number 0
-not-0 : (r : Refusal) → refusalNumber r ≡ 0 → ⊥
-not-0 r e = omega (arith, refusal-not-0 r)
 
 -- an answer is known by its number and its counts
 pub executed-known : (r q : Executed) (z za z′ za′ : List ℕ) → executedSays r z za ≡ executedSays q z′ za′ → r ≡ q
@@ -29,11 +22,11 @@ executed-known (Refused r) (Done d) z za z′ za′ e = absurd (not-0 r (ap numb
 executed-known (Refused r) (Refused q) z za z′ za′ e = ap Refused (refusal-known r q (ap number e))
 
 -- what an answer says of Z and ZA is what the call left there
-says-z : (r : Executed) (z za : List ℕ) → executedSays r z za .z ≡ z
+pub says-z : (r : Executed) (z za : List ℕ) → executedSays r z za .z ≡ z
 says-z (Done c) z za = refl
 says-z (Refused r) z za = refl
 
-says-za : (r : Executed) (z za : List ℕ) → executedSays r z za .za ≡ za
+pub says-za : (r : Executed) (z za : List ℕ) → executedSays r z za .za ≡ za
 says-za (Done c) z za = refl
 says-za (Refused r) z za = refl
 

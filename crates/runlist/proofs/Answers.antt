@@ -1,21 +1,14 @@
 -- What the promise of run determines: the answer, and Z, ZA and the report at the end. Assumes nothing.
 use Prim.Native.Nat.{ℕ}
-use native.Mathlib.Omega.{arith}
 use mathlib.Core.Path.{_≡_, refl, sym, ap, ap₂, _∙_}
 use mathlib.Core.List.{List}
-use Rattle.settings.specs.Refused.{refusalNumber}
-use Rattle.settings.specs.declared.Refusal.{Refusal}
-use Rattle.settings.proofs.Refusals.{refusal-known, refusal-not-0}
+use Rattle.settings.proofs.Refusals.{refusal-known, not-0}
 use Rattle.runlist.specs.RunList.{Ended, runSays, RunPromise}
 use Rattle.runlist.specs.declared.RunAnswer.{RunAnswer}
 use Rattle.runlist.specs.declared.RunAnswer.the-variants.{Ran, Refused}
 
 number : Ended → ℕ
 number o = o .number
-
--- a refusal does not say the number 0
-not-0 : (r : Refusal) → refusalNumber r ≡ 0 → ⊥
-not-0 r e = omega (arith, refusal-not-0 r)
 
 -- an answer is known by its number, its place, its count and its tally
 run-known : (r q : RunAnswer) (z za report z′ za′ report′ : List ℕ) → runSays r z za report ≡ runSays q z′ za′ report′ → r ≡ q

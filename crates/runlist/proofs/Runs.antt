@@ -14,6 +14,7 @@ use Rattle.machine.specs.Execute.{Outcome, executePaper, executedSays}
 use Rattle.machine.specs.Run.{Report, reportOf, Run, reportFirst, runOf}
 use Rattle.machine.specs.declared.Executed.{Executed}
 use Rattle.machine.specs.declared.Executed.the-variants.{Done, Refused}
+use Rattle.machine.proofs.Answers.{says-z, says-za}
 use Rattle.machine.proofs.Theorems.{toggled-le-written, few-written}
 use Rattle.runlist.specs.Plan.{Found, found, refused, Asked, planOf}
 use Rattle.runlist.specs.RunList.{noTally, tallied, three, threes, carriedOut, runPaper, RunPromise, threeOf, withThree, Performed}
@@ -42,15 +43,7 @@ starting s ws z za report =
       written-small = omega arith;
     }
 
--- what an answer says of Z and ZA is what the call left there, and its three numbers do not hang on them
-says-z : (e : Executed) (z za : List ℕ) → executedSays e z za .z ≡ z
-says-z (Done c) z za = refl
-says-z (Refused r) z za = refl
-
-says-za : (e : Executed) (z za : List ℕ) → executedSays e z za .za ≡ za
-says-za (Done c) z za = refl
-says-za (Refused r) z za = refl
-
+-- an answer's three numbers do not hang on Z and ZA
 says-report : (e : Executed) (z za : List ℕ) → reportOf (executedSays e [] []) ≡ reportOf (executedSays e z za)
 says-report (Done c) z za = refl
 says-report (Refused r) z za = refl

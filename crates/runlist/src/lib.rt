@@ -40,7 +40,7 @@ enum Words {
 }
 
 // The settings of the seven numbers in front.
-pub fn settings_of(head: &[u32]) -> Settings
+fn settings_of(head: &[u32]) -> Settings
     requires { ⌜ length (now head) ≡ 7 ⌝ }
     ensures { λ r. ⌜ r ≡ settingsOf (now (head .entry)) ⌝ }
 {

@@ -1,6 +1,7 @@
 -- A refusal is known by its number, and no refusal's number is 0. Assumes nothing.
 use Prim.Native.Nat.{ℕ, _<_}
 use mathlib.Core.Path.{_≡_, refl, sym, ap, _∙_}
+use mathlib.Core.Logic.{_≢_}
 use mathlib.Core.Bool.{cond}
 use native.Mathlib.Omega.{arith}
 use lib.Dec.{eqb}
@@ -47,6 +48,9 @@ refusal-not-0 ListEnds = omega arith
 refusal-not-0 BadNumber = omega arith
 refusal-not-0 TooManyWords = omega arith
 refusal-not-0 ExtraBytes = omega arith
+
+pub not-0 : (r : Refusal) → refusalNumber r ≢ 0
+not-0 r e = omega (arith, refusal-not-0 r)
 
 -- every answer says a number and values: a refusal does not say the number 0
 pub refused-not-0 : {A : Type 0} (r : Refusal) (x y : A) → _≡_ {A = ℕ × A} (refusalNumber r, x) (0, y) → ⊥
