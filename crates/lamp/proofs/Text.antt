@@ -8,6 +8,7 @@ use lib.Seq.{length-take-le}
 use borrow.Author.Tests.{ne-eqb}
 use Rattle.settings.specs.Refused.{refusalNumber}
 use Rattle.settings.specs.declared.Refusal.{Refusal}
+use Rattle.settings.specs.declared.Settings.{Settings}
 use Rattle.settings.proofs.Refusals.{not-0}
 use Rattle.tally.specs.declared.Tally.{Tally}
 use Rattle.runlist.specs.Plan.{Found, found, refused, Asked, mostWords, planOf, planSays, PlanFits}
@@ -22,16 +23,16 @@ use Rattle.lamp.specs.Lamp.{wordsOf, textOf, linesOf, WordsAgain}
 -- ---- the words, read again
 
 module _ (list : List ℕ) (z za room : ℕ) (ws : List ℕ) (l : length ws ≡ mostWords) where
-  told : (at n : ℕ) (head : List ℕ) → planSays (plan.Go at n) list z head ws ≡ planOf list z za room → (a : Asked) → planOf list z za room ≡ found a → take n ws ≡ a .words
+  told : (at n : ℕ) (s : Settings) → planSays (plan.Go at n) list z s ws ≡ planOf list z za room → (a : Asked) → planOf list z za room ≡ found a → take n ws ≡ a .words
   unfolding wordsOf
-  told at n head e a q = ap wordsOf (e ∙ q)
+  told at n s e a q = ap wordsOf (e ∙ q)
 
-  pub words-again : (r : Plan) (head : List ℕ) → planSays r list z head ws ≡ planOf list z za room → PlanFits r (length list) z room → WordsAgain list z za room ws
-  words-again (plan.Go at n) head e f a q =
-      let is : take n ws ≡ a .words = told at n head e a q in
+  pub words-again : (r : Plan) (s : Settings) → planSays r list z s ws ≡ planOf list z za room → PlanFits r (length list) z room → WordsAgain list z za room ws
+  words-again (plan.Go at n) s e f a q =
+      let is : take n ws ≡ a .words = told at n s e a q in
       let long : length (a .words) ≡ n = sym (ap length is) ∙ length-take-le n ws (omega (arith, f .1, l)) in
       ap (λ (k : ℕ). take k ws) long ∙ is
-  words-again (plan.Refused r p) head e f a q = let no : refused r p ≡ found a = e ∙ q in let no-such : _≡_ {A = ℕ} 0 1 = cc in absurd (omega arith)
+  words-again (plan.Refused r p) s e f a q = let no : refused r p ≡ found a = e ∙ q in let no-such : _≡_ {A = ℕ} 0 1 = cc in absurd (omega arith)
 
 -- ---- a list that ran was accepted
 

@@ -20,7 +20,7 @@ use Rattle.numbers.specs.declared.Read.the-variants.{Number, Fault}
 use Rattle.numbers.proofs.Places.{number-far, number-fault}
 use Rattle.numbers.proofs.Rows.{row-first, row-fault}
 use Rattle.machine.specs.Execute.{rightLengths}
-use Rattle.runlist.specs.Plan.{Found, found, refused, mostWords, endedAt, counted, wordsFrom, asking, zLength, zFrom, settledFrom, settingsOf, headed, planOf}
+use Rattle.runlist.specs.Plan.{Found, found, refused, mostWords, endedAt, afterCount, wordsFrom, asking, zLength, zFrom, settledFrom, settingsOf, headed, planOf}
 use Rattle.runlist.specs.Theorems.{longest}
 use Rattle.runlist.proofs.Theorems.{enough-bytes, run-of-enough}
 use Rattle.lamp.specs.Lamp.{wordsOf, textOf, linesOf, registerOf, registerBytes, printed}
@@ -80,7 +80,7 @@ module _ (list : List ℕ) where
   other-end at n (fault vs r p) e = of-number r (row-fault list at n vs r p e)
 
   -- the report has room for as many words as a list may have
-  other-count : (at : ℕ) (r : Read) → numberAt list at ≡ r → Other (counted list (3 * mostWords) at r)
+  other-count : (at : ℕ) (r : Read) → numberAt list at ≡ r → Other (afterCount list (3 * mostWords) at r)
   other-count at (Number n p) e =
       cond-holds Other (leb n mostWords) _ (refused TooManyWords at)
       (λ t. cond-holds Other (leb (3 * n) (3 * mostWords)) _ (refused BadLength 0)

@@ -82,6 +82,21 @@ row-count list at (suc n) ws p e =
     let count : length ws ≡ length (l .before) + 1 = ap length (l .numbers) ∙ length-append (l .before) (l .value ∷ []) in
     omega arith
 
+more-few : (list : List ℕ) (m : Numbers) (n : ℕ) → length (valuesOf m) ≤ n → length (valuesOf (more list m)) ≤ suc n
+unfolding valuesOf
+more-few list (all vs q) n h = go (numberAt list q)
+  where
+    go : (r : Read) → length (valuesOf (joined vs r)) ≤ suc n
+    go (Number w p) = omega (arith, length-append vs (w ∷ []))
+    go (Fault k p) = omega arith
+more-few list (fault vs k q) n h = omega arith
+
+-- no more numbers are read than were asked for
+pub values-few : (list : List ℕ) (at n : ℕ) → length (valuesOf (numbersAt list at n)) ≤ n
+unfolding numbersAt valuesOf
+values-few list at zero = omega arith
+values-few list at (suc n) = more-few list (numbersAt list at n) n (values-few list at n)
+
 -- a row has as many numbers as were asked for, and stands in the list; none has more than five bytes
 pub row-within : (list : List ℕ) (at n : ℕ) (ws : List ℕ) (p : ℕ) → at ≤ length list → numbersAt list at n ≡ all ws p
     → (length ws ≡ n) × (at ≤ p) × (p ≤ length list) × (p ≤ at + 5 * n)

@@ -22,7 +22,7 @@ use Rattle.numbers.proofs.Shortest.{put-length-1, put-length-2}
 use Rattle.numbers.proofs.Places.{number-far, number-within, number-fault}
 use Rattle.numbers.proofs.Rows.{row-count, row-within, row-far, row-fault, row-fault-within, putLengths, put-lengths-few, row-place}
 use Rattle.machine.specs.Execute.{rightLengths}
-use Rattle.runlist.specs.Plan.{Found, found, refused, Asked, mostWords, endedAt, counted, wordsFrom, asking, zLength, zFrom, settledFrom, settingsOf, headed, planOf}
+use Rattle.runlist.specs.Plan.{Found, found, refused, Asked, mostWords, endedAt, afterCount, wordsFrom, asking, zLength, zFrom, settledFrom, settingsOf, headed, planOf}
 use Rattle.runlist.specs.Theorems.{longest, OfList}
 use Rattle.runlist.proofs.Plans.{z-right}
 
@@ -63,7 +63,7 @@ module _ (list : List ℕ) (room at : ℕ) (ws : List ℕ) where
       g
   worded-end n p e h k (fault vs r q) f g = not-refused ws r q g
 
-  worded-number : (r : Read) → numberAt list at ≡ r → counted list room at r ≡ found ws → Worded list room at ws
+  worded-number : (r : Read) → numberAt list at ≡ r → afterCount list room at r ≡ found ws → Worded list room at ws
   worded-number (Number n p) e =
       by-cond (leb n mostWords) (cond (leb (3 * n) room) (endedAt list (numbersAt list p n)) (refused BadLength 0)) (refused TooManyWords at) (found ws)
       (λ h. by-cond (leb (3 * n) room) (endedAt list (numbersAt list p n)) (refused BadLength 0) (found ws)
@@ -144,7 +144,7 @@ module _ (list : List ℕ) where
       cond-holds (Told (length list)) (eqb p (length list)) (found ws) (refused ExtraBytes p) (λ t. tt) (λ t. (row-within list at n ws p h e .2, tt))
   told-end at n (fault vs r p) h e = (row-fault-within list at n vs r p h e .2, of-number r p (row-fault list at n vs r p e))
 
-  told-count : (room at : ℕ) (r : Read) → at ≤ length list → numberAt list at ≡ r → Told (length list) (counted list room at r)
+  told-count : (room at : ℕ) (r : Read) → at ≤ length list → numberAt list at ≡ r → Told (length list) (afterCount list room at r)
   told-count room at (Number n p) h e =
       cond-holds (Told (length list)) (leb n mostWords) _ (refused TooManyWords at)
       (λ t. cond-holds (Told (length list)) (leb (3 * n) room) _ (refused BadLength 0)
@@ -232,7 +232,7 @@ module _ (list t : List ℕ) where
       (ne-eqb p (length (list ++ t)) (λ (q : p ≡ length (list ++ t)). omega (arith, longer)) ∙ sym (ne-eqb p (length list) (λ (q : p ≡ length list). omega arith)))
   far-end (fault vs r p) at n h e = refl
 
-  far-count : (room at : ℕ) (r : Read) → at + 2 + mostWords * 5 < length list → numberAt list at ≡ r → counted (list ++ t) room at r ≡ counted list room at r
+  far-count : (room at : ℕ) (r : Read) → at + 2 + mostWords * 5 < length list → numberAt list at ≡ r → afterCount (list ++ t) room at r ≡ afterCount list room at r
   far-count room at (Number n p) h e =
       cond-then (leb n mostWords) _ _ (refused TooManyWords at)
       (λ k. cond-then (leb (3 * n) room) _ _ (refused BadLength 0)
@@ -245,7 +245,7 @@ module _ (list t : List ℕ) where
 
   far-words : (room at : ℕ) → at + 2 + mostWords * 5 < length list → wordsFrom (list ++ t) room at ≡ wordsFrom list room at
   unfolding wordsFrom
-  far-words room at h = ap (counted (list ++ t) room at) (number-far list t at (omega arith)) ∙ far-count room at (numberAt list at) h refl
+  far-words room at h = ap (afterCount (list ++ t) room at) (number-far list t at (omega arith)) ∙ far-count room at (numberAt list at) h refl
 
   far-z : (room : ℕ) (s : Settings) (at z za : ℕ) → rightLengths s z za ≡ true → at + z + 2 + mostWords * 5 < length list
       → zFrom (list ++ t) room s at ≡ zFrom list room s at

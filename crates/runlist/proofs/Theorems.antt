@@ -15,7 +15,7 @@ use Rattle.numbers.proofs.Rows.{row-kept}
 use Rattle.runlist.specs.Plan.{Found, found, refused, Asked, endedAt, wordsFrom, asking, settledFrom, headed, planOf}
 use Rattle.runlist.specs.RunList.{carriedOut, runPaper}
 use Rattle.runlist.specs.Theorems.{longest, AtMostLongest, OnlyWhole, FirstBytesDecide, EnoughBytes, RunOfEnough, LengthsHold, PlaceInside, RefusedWith}
-use Rattle.runlist.proofs.Plans.{counted-words, z-read}
+use Rattle.runlist.proofs.Plans.{words-counted, z-read}
 use Rattle.runlist.proofs.Lists.{Worded, Made, made, Told, told, far}
 
 -- ---- how long a list can be
@@ -30,7 +30,7 @@ some-bytes (b ∷ t) h = omega arith
 module _ (list t : List ℕ) (h : t ≢ []) where
   words-more : (room at : ℕ) (ws : List ℕ) → Worded list room at ws → wordsFrom (list ++ t) room at ≡ refused ExtraBytes (length list)
   words-more room at ws w =
-      sym (counted-words (list ++ t) room at (length ws) (w .from) (number-kept list t at (length ws) (w .from) (w .count)) (w .few) (w .reported))
+      sym (words-counted (list ++ t) room at (length ws) (w .from) (number-kept list t at (length ws) (w .from) (w .count)) (w .few) (w .reported))
       ∙ ap (endedAt (list ++ t)) (row-kept list t (w .from) (length ws) ws (length list) (w .row))
       ∙ simp (ne-eqb (length list) (length (list ++ t)) (λ (q : length list ≡ length (list ++ t)). omega (arith, length-append list t, some-bytes t h)))
 

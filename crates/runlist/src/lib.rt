@@ -4,8 +4,8 @@ ghost use Prim.Native.Nat.{_+_, _*_, _≤_};
 ghost use lib.ListN.{length, take, drop, replicate};
 ghost use Rattle.machine.specs.Execute.{executePaper, executedSays};
 ghost use Rattle.machine.specs.Run.{reportOf, runOf};
-ghost use Rattle.numbers.specs.Numbers.{numbersAt};
-ghost use Rattle.runlist.specs.Plan.{mostWords, endedAt, wordsFrom, planOf, settingsOf, wordsSay, AtMost, WordsFit, planSays, PlanFits};
+ghost use Rattle.numbers.specs.Numbers.{numbersAt, filled};
+ghost use Rattle.runlist.specs.Plan.{mostWords, endedAt, settingsOf, wordsSay, AtMost, WordsRead, RestRead, ListRead};
 ghost use Rattle.runlist.specs.RunList.{threeOf, withThree, RunPromise, Performed};
 use machine::Executed;
 use numbers::Read;
@@ -54,9 +54,9 @@ fn settings_of(head: &[u32]) -> Settings
 
 // The words from `at` on, as many as `words` has room for, after which the list ends.
 fn read_to_end(list: &[u8], at: usize, words: &mut [u32]) -> Words
-    requires { ⌜ length (now words) ≤ mostWords ⌝ }
     ensures { λ r. ⌜ wordsSay r (now (words .exit)) ≡ endedAt (now (list .entry)) (numbersAt (now (list .entry)) at (length (now (words .entry)))) ⌝ }
     ensures { λ r. ⌜ AtMost (length (now (words .entry))) r ⌝ }
+    ensures { λ r. ⌜ now (words .exit) ≡ filled (numbersAt (now (list .entry)) at (length (now (words .entry)))) (now (words .entry)) ⌝ }
 {
     match numbers::read_numbers(list, at, words) {
         Row::Fault { refusal, place } => Words::Refused {
@@ -78,8 +78,7 @@ fn read_to_end(list: &[u8], at: usize, words: &mut [u32]) -> Words
 // The count at `at`, and as many words. `room` is how many numbers the report has.
 fn read_words(list: &[u8], room: usize, at: usize, words: &mut [u32]) -> Words
     requires { ⌜ length (now words) ≡ mostWords ⌝ }
-    ensures { λ r. ⌜ wordsSay r (now (words .exit)) ≡ wordsFrom (now (list .entry)) room at ⌝ }
-    ensures { λ r. ⌜ WordsFit r room ⌝ }
+    ensures { λ r. ⌜ WordsRead (now (list .entry)) room at (now (words .entry)) r (now (words .exit)) ⌝ }
 {
     match numbers::read_number(list, at) {
         Read::Fault { refusal, place } => Words::Refused {
@@ -105,6 +104,49 @@ fn read_words(list: &[u8], room: usize, at: usize, words: &mut [u32]) -> Words
     }
 }
 
+// What follows the seven numbers: the Z bytes are at `at`, if these settings and lengths pass.
+fn read_rest(
+    list: &[u8],
+    z: usize,
+    za: usize,
+    room: usize,
+    settings: Settings,
+    at: usize,
+    words: &mut [u32],
+) -> Plan
+    requires { ⌜ (at ≤ length (now list)) × (length (now words) ≡ mostWords) ⌝ }
+    ensures { λ r. ⌜ RestRead (now (list .entry)) z za room settings at (now (words .entry)) r (now (words .exit)) ⌝ }
+{
+    if !settings.valid() {
+        return Plan::Refused {
+            refusal: Refusal::BadSettings,
+            place: 0,
+        };
+    }
+    if !machine::right_lengths(settings, z, za) {
+        return Plan::Refused {
+            refusal: Refusal::BadLength,
+            place: 0,
+        };
+    }
+    if list.len() - at < z {
+        return Plan::Refused {
+            refusal: Refusal::ListEnds,
+            place: at,
+        };
+    }
+    match read_words(list, room, at + z, words) {
+        Words::Refused { refusal, place } => Plan::Refused {
+            refusal: refusal,
+            place: place,
+        },
+        Words::Count { words } => Plan::Go {
+            at: at,
+            words: words,
+        },
+    }
+}
+
 // Reads a list to its end. It writes nothing but its two rooms: `head` for the seven numbers in front, `words` for the words.
 pub fn read_list(
     list: &[u8],
@@ -115,45 +157,14 @@ pub fn read_list(
     words: &mut [u32],
 ) -> Plan
     requires { ⌜ (length (now head) ≡ 7) × (length (now words) ≡ mostWords) ⌝ }
-    ensures { λ r. ⌜ planSays r (now (list .entry)) z (now (head .exit)) (now (words .exit)) ≡ planOf (now (list .entry)) z za room ⌝ }
-    ensures { λ r. ⌜ PlanFits r (length (now (list .entry))) z room ⌝ }
+    ensures { λ r. ⌜ ListRead (now (list .entry)) z za room (now (head .entry)) (now (words .entry)) r (now (head .exit)) (now (words .exit)) ⌝ }
 {
     match numbers::read_numbers(list, 0, head) {
         Row::Fault { refusal, place } => Plan::Refused {
             refusal: refusal,
             place: place,
         },
-        Row::Next { next } => {
-            let settings = settings_of(head);
-            if !settings.valid() {
-                return Plan::Refused {
-                    refusal: Refusal::BadSettings,
-                    place: 0,
-                };
-            }
-            if !machine::right_lengths(settings, z, za) {
-                return Plan::Refused {
-                    refusal: Refusal::BadLength,
-                    place: 0,
-                };
-            }
-            if list.len() - next < z {
-                return Plan::Refused {
-                    refusal: Refusal::ListEnds,
-                    place: next,
-                };
-            }
-            match read_words(list, room, next + z, words) {
-                Words::Refused { refusal, place } => Plan::Refused {
-                    refusal: refusal,
-                    place: place,
-                },
-                Words::Count { words } => Plan::Go {
-                    at: next,
-                    words: words,
-                },
-            }
-        }
+        Row::Next { next } => read_rest(list, z, za, room, settings_of(head), next, words),
     }
 }
 

@@ -17,7 +17,7 @@ same-length c = search needs
 returns : tie.Need-returns
 returns c =
     let r = c .before .before .before in
-    words-again _ _ _ _ _ (r .read-list .kept .1 .1 .1 .1 .1 .0 ∙ r .before .before .before .before .before .pre) (r .read-list .result) _ (r .read-list .ensures .0) (r .read-list .ensures .1)
+    words-again _ _ _ _ _ (r .read-list .kept .1 .1 .1 .1 .1 .0 ∙ r .before .before .before .before .before .pre) (r .read-list .result) _ (r .read-list .ensures .says) (r .read-list .ensures .fits)
 
 pub read-words-spec : {M : Type 1} → statement M
 read-words-spec =

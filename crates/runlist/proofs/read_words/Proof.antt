@@ -1,14 +1,14 @@
 -- `runlist::read_words` meets its contract. Assumes nothing.
 use Prim.Native.Nat.{ℕ, _≤_}
 use native.Mathlib.Omega.{arith}
-use mathlib.Core.Path.{_≡_, sym, ap, _∙_}
+use mathlib.Core.Path.{_≡_, sym, _∙_}
 use mathlib.Core.List.{List}
-use lib.ListN.{length, take, drop}
+use lib.ListN.{length, take}
 use lib.Seq.{length-take-le}
-use Rattle.numbers.specs.Numbers.{numberAt, numbersAt}
+use Rattle.numbers.specs.Numbers.{numberAt}
 use Rattle.numbers.specs.declared.Read.the-variants.{Number}
-use Rattle.runlist.specs.Plan.{mostWords, endedAt}
-use Rattle.runlist.proofs.Plans.{no-count, too-many, no-room, counted-words, in-front, words-fit}
+use Rattle.runlist.specs.Plan.{mostWords}
+use Rattle.runlist.proofs.Plans.{no-count, too-many, no-room, counted-words}
 use borrow.Author.Needs.{needs}
 use Rattle.runlist.proofs.read_words.Statement.{statement}
 use Rattle.runlist.proofs.read_words.Tie as tie
@@ -50,13 +50,13 @@ cast-n : tie.Need-cast-n
 cast-n c = search needs
 
 returns : tie.Need-returns
-returns c = (too-many _ _ _ _ _ (counted (c .before .before)) (c .if1 .taken), tt)
+returns c = too-many _ _ _ _ _ _ (counted (c .before .before)) (c .if1 .taken)
 
 mul-if2 : tie.Need-mul-if2
 mul-if2 c = search needs
 
 returns-2 : tie.Need-returns-2
-returns-2 c = (no-room _ _ _ _ _ (counted (c .before .before .before)) (c .before .if1 .left) (c .if2 .taken), tt)
+returns-2 c = no-room _ _ _ _ _ _ (counted (c .before .before .before)) (c .before .if1 .left) (c .if2 .taken)
 
 slice-relend-prefix-read-to-end : tie.Need-slice-relend-prefix-read-to-end
 slice-relend-prefix-read-to-end c = search needs
@@ -68,7 +68,7 @@ read-to-end-requires : tie.Need-read-to-end-requires
 read-to-end-requires c κs = omega (arith, as-many (c .before .before .before .before) (c .before .before .if1 .left), c .before .before .if1 .left)
 
 returns-3 : tie.Need-returns-3
-returns-3 c = (no-count _ _ _ _ _ (sym (c .before .before .before .read-number .ensures) ∙ c .before .refusal .given .1), tt)
+returns-3 c = no-count _ _ _ _ _ _ (sym (c .before .before .before .read-number .ensures) ∙ c .before .refusal .given .1)
 
 same-length : tie.Need-same-length
 same-length c = search needs
@@ -78,16 +78,9 @@ returns-4 c =
     let x = c .before .before in
     let v = value x in
     let e = entry v .args in
-    let few = x .before .before .before .if1 .left in
-    let room = x .before .before .if2 .left in
-    let long : length (take (count v) (e .words .now)) ≡ count v = as-many v few in
-    let r = x .read-to-end in (
-      in-front (r .result) (r .last .1 .1 .0) (drop (count v) (e .words .now)) _ (sym (r .kept .1 .1 .0)) (r .ensures .1)
-          ∙ r .ensures .0
-          ∙ ap (λ (n : ℕ). endedAt (list v) (numbersAt (list v) (next v) n)) long
-          ∙ counted-words (list v) (e .room) (e .at) (count v) (next v) (counted v) few room,
-      words-fit (r .result) _ (e .room) (r .ensures .1) (omega arith) (omega arith),
-    )
+    let r = x .read-to-end in
+    counted-words (list v) (e .room) (e .at) (e .words .now) (count v) (next v) (counted v) (x .before .before .before .if1 .left) (x .before .before .if2 .left) (entry v .pre)
+    (r .result) (r .last .1 .1 .0) (r .ensures .0) (r .ensures .1 .0) (r .ensures .1 .1) (r .kept .1 .1 .0)
 
 pub read-words-spec : {M : Type 1} → statement M
 read-words-spec =

@@ -6,7 +6,7 @@ use mathlib.Core.List.{List}
 use lib.ListN.{length, take}
 use lib.Seq.{length-take-le}
 use Rattle.settings.specs.declared.Settings.{Settings}
-use Rattle.runlist.specs.Plan.{found, planOf, planSays, PlanFits}
+use Rattle.runlist.specs.Plan.{found, settingsOf, planOf, planSays, PlanFits}
 use Rattle.runlist.specs.declared.Plan.{Plan}
 use Rattle.runlist.specs.declared.Plan.the-variants.{Go}
 use Rattle.runlist.proofs.Runs.{not-run, is-run}
@@ -58,18 +58,18 @@ going c = c .at .given .1
 fits : (c : tie.After-at) → PlanFits (Go (place c) (count c)) (length (entry (read c) .args .list .now)) (length (entry (read c) .args .z .now)) (length (entry (read c) .args .report .now))
 fits c =
     subst (λ (p : Plan). PlanFits p (length (entry (read c) .args .list .now)) (length (entry (read c) .args .z .now)) (length (entry (read c) .args .report .now)))
-    (going c) (read c .read-list .ensures .1)
+    (going c) (read c .read-list .ensures .fits)
 
 -- as many words as the plan counts
 as-many : (c : tie.After-at) → length (take (count c) (words c)) ≡ count c
 as-many c = length-take-le (count c) (words c) (omega (arith, fits c .1, read c .read-list .kept .1 .1 .1 .1 .1 .0))
 
 planned : (c : tie.After-at)
-    → planSays (Go (place c) (count c)) (entry (read c) .args .list .now) (length (entry (read c) .args .z .now)) (head c) (words c)
+    → planSays (Go (place c) (count c)) (entry (read c) .args .list .now) (length (entry (read c) .args .z .now)) (settingsOf (head c)) (words c)
     ≡ planOf (entry (read c) .args .list .now) (length (entry (read c) .args .z .now)) (length (entry (read c) .args .za .now)) (length (entry (read c) .args .report .now))
 planned c =
-    ap (λ (p : Plan). planSays p (entry (read c) .args .list .now) (length (entry (read c) .args .z .now)) (head c) (words c)) (sym (going c))
-    ∙ read c .read-list .ensures .0
+    ap (λ (p : Plan). planSays p (entry (read c) .args .list .now) (length (entry (read c) .args .z .now)) (settingsOf (head c)) (words c)) (sym (going c))
+    ∙ read c .read-list .ensures .says
 
 slice-aggregate-read-list : tie.Need-slice-aggregate-read-list
 slice-aggregate-read-list c = search needs
@@ -116,8 +116,8 @@ returns c =
     let k = c .before .before .before .before .before in
     let a = entry k .args in
     not-run (a .list .now) (a .z .now) (a .za .now) (a .report .now) _ _
-    (ap (λ (p : Plan). planSays p (a .list .now) (length (a .z .now)) (k .read-list .last .1 .1 .1 .1 .0) (k .read-list .last .1 .1 .1 .1 .1 .0)) (sym (c .before .refusal .given .1))
-    ∙ k .read-list .ensures .0)
+    (ap (λ (p : Plan). planSays p (a .list .now) (length (a .z .now)) (settingsOf (k .read-list .last .1 .1 .1 .1 .0)) (k .read-list .last .1 .1 .1 .1 .1 .0)) (sym (c .before .refusal .given .1))
+    ∙ k .read-list .ensures .says)
 
 same-length : tie.Need-same-length
 same-length c = search needs
