@@ -37,7 +37,7 @@ registerOf (Fault r p) = 0
 unfoldable pub registerBytes : List ℕ → ℕ
 registerBytes list = registerOf (numberAt list 0)
 
--- what is printed: Z, ZA and the report are zeros, as long as the list asks for
+-- what is printed: zeros are lent, Z and ZA as long as the list asks for, and three numbers for each word that a list may have
 unfoldable pub printed : List ℕ → List ℕ
 printed list =
     linesOf list (replicate (32 * registerBytes list) 0) (replicate (registerBytes list * registerBytes list) 0) (replicate (3 * mostWords) 0)

@@ -1,17 +1,17 @@
 // The list program: reads a list from standard input to its end, runs it, and prints a line for each word.
 ghost use mathlib.Core.Path.{_≡_};
-ghost use Prim.Native.Nat.{_+_, _*_, _≤_};
+ghost use Prim.Native.Nat.{_+_, _*_, _≤_, _<_};
 ghost use lib.ListN.{length, take};
 ghost use Rattle.lines.specs.Lines.{Wrote};
 ghost use Rattle.runlist.specs.Plan.{mostWords};
+ghost use Rattle.runlist.specs.Theorems.{longest};
 ghost use Rattle.lamp.specs.Lamp.{linesOf, registerOf, registerBytes, printed, WordsAgain};
 use libc::STDIN_FILENO;
 use libc::STDOUT_FILENO;
 use numbers::Read;
 use runlist::RunAnswer;
 
-// No list of more than 7,194 bytes is accepted, and the first bytes of a longer one decide how it is refused
-// (`enough-read`). So no more of the input is kept.
+// How much of the input is kept.
 const INPUT: usize = 8192;
 
 // Z and ZA are at their longest at VL 512.
@@ -107,6 +107,13 @@ fn put_printed(list: &[u8], out: &mut [u8]) -> usize
     )
 }
 
+// Room for more than the longest list that is accepted: of a longer one these bytes decide how it is refused (`enough-read`).
+fn input_room() -> [u8; INPUT]
+    ensures { λ r. ⌜ (8192 ≡ length r) × (longest < length r) ⌝ }
+{
+    [0; INPUT]
+}
+
 fn read_some() -> bool {
     let mut buffer = io::buffer();
     libc::read(STDIN_FILENO, &mut buffer) > 0
@@ -122,7 +129,7 @@ fn read_to_end() {
 }
 
 fn main() {
-    let mut input = [0u8; INPUT];
+    let mut input = input_room();
     let got = io::read_full(STDIN_FILENO, &mut input);
     if got == INPUT {
         read_to_end();

@@ -11,13 +11,14 @@ use Rattle.settings.specs.declared.Refusal.{Refusal}
 use Rattle.settings.specs.declared.Refusal.the-variants.{ListEnds, BadNumber}
 use Rattle.numbers.specs.declared.Read.the-variants.{Number, Fault}
 use Rattle.numbers.specs.Numbers.{Got, got, short, wrong, onto, numeral, placed, numberAt, put}
+use Rattle.numbers.specs.Theorems.{NoFurther}
 use Rattle.numbers.proofs.Groups.{fifth-last, last-group, group-follows, Front, faulty, ends, goes-on, front}
 use Rattle.numbers.proofs.Shortest.{put-length, read-put, read-shortest, read-length, read-small}
 
 -- ---- bytes
 
 -- what follows a number, or one that is wrong, changes nothing
-pub reads-no-further : (k : ℕ) (s t : List ℕ) → numeral k s ≢ short → numeral k (s ++ t) ≡ numeral k s
+pub reads-no-further : NoFurther
 unfolding numeral
 reads-no-further k [] t h = absurd (h refl)
 reads-no-further k (b ∷ s) t h = go (reads-no-further (suc k) s t) (front k b)

@@ -11,6 +11,7 @@ use lib.Dec.{ltb}
 use lib.ListN.{length, take}
 use borrow.Author.Tests.{lt-ltb, le-ltb}
 use Rattle.numbers.specs.Numbers.{Got, got, short, wrong, onto, most, numeral, putIn, put}
+use Rattle.numbers.specs.Theorems.{ReadBack, ReadShortest, ReadSmall, OneForm}
 use Rattle.numbers.proofs.Groups.{fits-fifth, fits-other, fifth-small, other-small, fifth-last, last-group, group-follows, Front, faulty, ends, goes-on, front}
 
 -- ---- the bytes of the shortest form
@@ -80,7 +81,7 @@ put-read (suc f) k n t e l z = go (put-read f (suc k) (n / 128) t) (decLt n 128)
         ∙ ap₂ got (omega arith) refl)
 
 -- what is put is read back, whatever follows
-pub read-put : (n : ℕ) (t : List ℕ) → n < 2 ^ 32 → numeral 0 (put n ++ t) ≡ got n (length (put n))
+pub read-put : ReadBack
 unfolding put
 read-put n t h = put-read 4 0 n t refl h (λ _. refl)
 
@@ -155,7 +156,7 @@ whole k f (b ∷ s) v n e h = go (λ j w m. whole (suc k) j s w m) (front k b)
     go ih (goes-on p l) = over k b s v n h p l f e ih
 
 -- a number that is read is in the shortest form
-pub read-shortest : (s : List ℕ) (v n : ℕ) → numeral 0 s ≡ got v n → take n s ≡ put v
+pub read-shortest : ReadShortest
 unfolding put
 read-shortest s v n h = whole 0 4 s v n refl h .taken
 
@@ -165,9 +166,9 @@ unfolding put
 read-length s v n h = whole 0 4 s v n refl h .count
 
 -- and is below 2 ^ 32
-pub read-small : (s : List ℕ) (v n : ℕ) → numeral 0 s ≡ got v n → v < 2 ^ 32
+pub read-small : ReadSmall
 read-small s v n h = whole 0 4 s v n refl h .small
 
 -- a number that can be read has one form: two lists that begin with the same number begin with the same bytes, and as many
-pub one-form : (s t : List ℕ) (v n m : ℕ) → numeral 0 s ≡ got v n → numeral 0 t ≡ got v m → (n ≡ m) × (take n s ≡ take m t)
+pub one-form : OneForm
 one-form s t v n m h g = (read-length s v n h ∙ sym (read-length t v m g), read-shortest s v n h ∙ sym (read-shortest t v m g))
