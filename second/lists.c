@@ -443,15 +443,34 @@ static void extra(void)
         }
 }
 
-/* One list cut at every byte. Two longer ones likewise, but with few cuts in the Z bytes, where all are alike. */
+/* At every byte, or with few cuts in the Z bytes, where all are alike. */
+static void give_cuts(const struct plan *p, int at_every_byte)
+{
+    build(p);
+    for (size_t at = 0; at < whole.length; at++)
+        if (at_every_byte || at <= starts[Z_ITEM] || at + 1 >= starts[COUNT_ITEM] || at % 128 == 0)
+            give_cut(at);
+}
+
+/* Three lists cut at every byte: D and E; A and B, and a word of D that is refused with 4; C with ZA off. Two longer
+ * ones with few cuts in the Z bytes. */
 static void cuts(void)
 {
-    for (uint32_t v = 0; v < 3; v++) {
+    static const struct {
+        struct second_settings s;
+        uint32_t count, of[4];
+    } every[] = {{{.vl = 128, .features = 28, .modes = 3, .w = {UINT32_MAX, 1u << 21, 128, 5}}, 3, {7, 9, 8}},
+                 {{.vl = 128, .features = 31, .modes = 2, .w = {0, 127, 16384, 1u << 28}}, 4, {0, 3, 7, 2}},
+                 {{.vl = 128, .features = 4, .modes = 1, .w = {300, 1u << 14, 0, UINT32_MAX - 1}}, 2, {5, 6}}};
+    for (size_t i = 0; i < sizeof every / sizeof *every; i++) {
+        struct plan p = {.s = every[i].s, .z_kind = FILL_RANDOM};
+        for (uint32_t word = 0; word < every[i].count; word++)
+            add_word(&p, choose_word(every[i].of[word]));
+        give_cuts(&p, 1);
+    }
+    for (uint32_t v = 1; v < 3; v++) {
         struct plan p = short_plan(vls[v], 3 + v);
-        build(&p);
-        for (size_t at = 0; at < whole.length; at++)
-            if (v == 0 || at <= starts[Z_ITEM] || at + 1 >= starts[COUNT_ITEM] || at % 128 == 0)
-                give_cut(at);
+        give_cuts(&p, 0);
     }
 }
 

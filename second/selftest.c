@@ -455,7 +455,7 @@ static struct {
              {"too-many", 24, 1 << 9},
              {"extra", 60, 1 << 10},
              {"bad-settings", 120, 1 << 1 | 1 << 7 | 1 << 8},
-             {"cuts", 652, 1 << 7},
+             {"cuts", 1736, 1 << 7},
              {"random", 100, 1 << 1 | 1 << 7 | 1 << 8},
              {"tails", 120, 1 << 0 | 1 << 7 | 1 << 8 | 1 << 9 | 1 << 10},
              {"changes", 160, 1 << 0 | 1 << 1 | 1 << 7 | 1 << 8 | 1 << 9 | 1 << 10},
@@ -539,7 +539,7 @@ static void made_lists(void)
     check(made.refused[3] > 100 && made.refused[4] > 100, "made lists: words refused with 3 and with 4");
     check(made.longest == 7194, "made lists: the longest list");
     /* Of whatever compiler: a number changes here only when the lists are meant to change. */
-    check(made.checksum == 0x8491F095, "made lists: the same ones as ever");
+    check(made.checksum == 0x589FB005, "made lists: the same ones as ever");
 }
 
 int selftest_command(void)
