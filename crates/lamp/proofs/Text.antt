@@ -11,7 +11,8 @@ use Rattle.settings.specs.declared.Refusal.{Refusal}
 use Rattle.settings.specs.declared.Settings.{Settings}
 use Rattle.settings.proofs.Refusals.{not-0}
 use Rattle.tally.specs.declared.Tally.{Tally}
-use Rattle.runlist.specs.Plan.{Found, found, refused, Asked, mostWords, planOf, planSays, PlanFits}
+use Rattle.runlist.specs.Plan.{Found, found, refused, Asked, mostWords, planOf}
+use Rattle.runlist.specs.Rooms.{planSays, PlanFits}
 use Rattle.runlist.specs.RunList.{Ended, carriedOut, runPaper, runSays, RunPromise}
 use Rattle.runlist.specs.declared.Plan.{Plan}
 use Rattle.runlist.specs.declared.Plan.the-variants as plan

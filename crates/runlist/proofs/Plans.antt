@@ -20,7 +20,7 @@ use Rattle.numbers.specs.declared.Row.the-variants as row
 use Rattle.numbers.proofs.Rows.{told-all, told-fault, filled-all, values-few, row-within}
 use Rattle.machine.specs.Execute.{rightLengths}
 use Rattle.runlist.specs.Plan.{found, refused, mostWords, endedAt, wordsFrom, asking, zLength, zFrom, settledFrom, settingsOf, headed, planOf}
-use Rattle.runlist.specs.Plan.{nothing, wordsSeen, restSeen, seenBehind, listSeen, wordsSay, AtMost, WordsFit, planSays, WordsRead, RestRead, ListRead}
+use Rattle.runlist.specs.Rooms.{nothing, wordsSeen, restSeen, seenBehind, listSeen, wordsSay, AtMost, WordsFit, planSays, WordsRead, RestRead, ListRead}
 use Rattle.runlist.specs.declared.Words.{Words}
 use Rattle.runlist.specs.declared.Words.the-variants as words
 use Rattle.runlist.specs.declared.Plan.{Plan}

@@ -1,4 +1,5 @@
 pub mod Plan
+pub mod Rooms
 pub mod RunList
 pub mod Theorems
 pub mod Examples

@@ -5,7 +5,8 @@ ghost use lib.ListN.{length, take, drop, replicate};
 ghost use Rattle.machine.specs.Execute.{executePaper, executedSays};
 ghost use Rattle.machine.specs.Run.{reportOf, runOf};
 ghost use Rattle.numbers.specs.Numbers.{numbersAt, filled};
-ghost use Rattle.runlist.specs.Plan.{mostWords, endedAt, settingsOf, wordsSay, AtMost, WordsRead, RestRead, ListRead};
+ghost use Rattle.runlist.specs.Plan.{mostWords, endedAt, settingsOf};
+ghost use Rattle.runlist.specs.Rooms.{wordsSay, AtMost, WordsRead, RestRead, ListRead};
 ghost use Rattle.runlist.specs.RunList.{threeOf, withThree, RunPromise, Performed};
 use machine::Executed;
 use numbers::Read;
@@ -104,7 +105,7 @@ fn read_words(list: &[u8], room: usize, at: usize, words: &mut [u32]) -> Words
     }
 }
 
-// What follows the seven numbers: the Z bytes are at `at`, if these settings and lengths pass.
+// What follows the seven numbers: the settings and the lengths are tested, then come the Z bytes, from `at` on, and the words.
 fn read_rest(
     list: &[u8],
     z: usize,
@@ -147,7 +148,8 @@ fn read_rest(
     }
 }
 
-// Reads a list to its end. It writes nothing but its two rooms: `head` for the seven numbers in front, `words` for the words.
+// Reads a list to its end; z, za and room are the lengths of Z, ZA and the report. It writes nothing but its two rooms: `head` for
+// the seven numbers in front, and `words` for the words.
 pub fn read_list(
     list: &[u8],
     z: usize,

@@ -6,7 +6,8 @@ use mathlib.Core.List.{List}
 use lib.ListN.{length, take}
 use lib.Seq.{length-take-le}
 use Rattle.settings.specs.declared.Settings.{Settings}
-use Rattle.runlist.specs.Plan.{found, settingsOf, planOf, planSays, PlanFits}
+use Rattle.runlist.specs.Plan.{found, settingsOf, planOf}
+use Rattle.runlist.specs.Rooms.{planSays, PlanFits}
 use Rattle.runlist.specs.declared.Plan.{Plan}
 use Rattle.runlist.specs.declared.Plan.the-variants.{Go}
 use Rattle.runlist.proofs.Runs.{not-run, is-run}
