@@ -3,3 +3,4 @@ pub mod Turns
 pub mod Shortest
 pub mod Places
 pub mod Rows
+pub mod Forms

@@ -21,7 +21,7 @@ use Rattle.numbers.proofs.Places.{number-kept, bad-kept, number-far, nu
 -- ---- the last number of a row
 
 -- a row of one number more: the row before it, and its last number
-record LastIs (list : List ℕ) (m : Numbers) (ws : List ℕ) (p : ℕ) : Type 0 where
+pub record LastIs (list : List ℕ) (m : Numbers) (ws : List ℕ) (p : ℕ) : Type 0 where
   pub before : List ℕ
   pub place : ℕ
   pub value : ℕ
@@ -42,7 +42,7 @@ last-number list vs q (Number w n) ws p f e =
     }
 last-number list vs q (Fault k n) ws p f e = let z : _≡_ {A = ℕ} 0 1 = cc in absurd (omega arith)
 
-last-of : (list : List ℕ) (m : Numbers) (ws : List ℕ) (p : ℕ) → more list m ≡ all ws p → LastIs list m ws p
+pub last-of : (list : List ℕ) (m : Numbers) (ws : List ℕ) (p : ℕ) → more list m ≡ all ws p → LastIs list m ws p
 last-of list (all vs q) ws p e = last-number list vs q (numberAt list q) ws p refl e
 last-of list (fault vs k q) ws p e = let z : _≡_ {A = ℕ} 0 1 = cc in absurd (omega arith)
 

@@ -59,6 +59,11 @@ unfoldable pub put : ℕ → List ℕ
 unfolding putIn
 put n = putIn 4 n
 
+-- numbers, one after another
+unfoldable pub puts : List ℕ → List ℕ
+puts [] = []
+puts (n ∷ ns) = put n ++ puts ns
+
 -- ---- a row of numbers
 
 -- the numbers and the place after them; or those before the first fault, the fault, and its place

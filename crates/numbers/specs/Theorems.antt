@@ -1,10 +1,11 @@
--- What holds of every number of a list. Statements only: proofs/Shortest.antt and proofs/Places.antt prove each.
-use Prim.Native.Nat.{ℕ, _^_, _<_}
+-- What holds of every number of a list. Statements only: proofs/Shortest.antt, Places.antt and Forms.antt prove each.
+use Prim.Native.Nat.{ℕ, _+_, _^_, _<_}
 use mathlib.Core.Path.{_≡_}
 use mathlib.Core.Logic.{_≢_}
 use mathlib.Core.List.{List, _++_}
-use lib.ListN.{length, take}
-use Rattle.numbers.specs.Numbers.{got, short, numeral, put}
+use lib.ListN.{length, take, drop}
+use Rattle.laws.proofs.Lists.{Each}
+use Rattle.numbers.specs.Numbers.{got, short, numeral, put, puts, all, numbersAt}
 
 -- what `put` writes is read back, whatever follows it
 abbrev pub ReadBack : Type 0
@@ -24,3 +25,12 @@ OneForm = (s t : List ℕ) (v n m : ℕ) → numeral 0 s ≡ got v n → numeral
 -- nothing past a number is looked at, nor past what makes one wrong
 abbrev pub NoFurther : Type 0
 NoFurther = (k : ℕ) (s t : List ℕ) → numeral k s ≢ short → numeral k (s ++ t) ≡ numeral k s
+
+-- the same of a row: what is put is read back, wherever it stands, and what is read was put so
+abbrev pub RowReadBack : Type 0
+RowReadBack =
+    (before ws t : List ℕ) → Each (λ w. w < 2 ^ 32) ws
+    → numbersAt (before ++ (puts ws ++ t)) (length before) (length ws) ≡ all ws (length before + length (puts ws))
+
+abbrev pub RowForm : Type 0
+RowForm = (list : List ℕ) (at n : ℕ) (ws : List ℕ) (p : ℕ) → numbersAt list at n ≡ all ws p → drop at list ≡ puts ws ++ drop p list

@@ -3,3 +3,4 @@ pub mod Lists
 pub mod Theorems
 pub mod Runs
 pub mod Answers
+pub mod Written

@@ -1,13 +1,16 @@
 -- What holds of every run list, in document 01's words. Statements only: proofs/Theorems.antt proves each.
-use Prim.Native.Nat.{ℕ, _+_, _*_, _≤_, _<_}
+use Prim.Native.Nat.{ℕ, _+_, _*_, _^_, _≤_, _<_}
 use mathlib.Core.Path.{_≡_}
 use mathlib.Core.Logic.{_≢_}
 use mathlib.Core.Bool.{true}
-use mathlib.Core.List.{List, [], _++_}
+use mathlib.Core.List.{List, [], _∷_, _++_}
 use lib.ListN.{length, take}
+use Rattle.laws.proofs.Lists.{Each}
 use Rattle.settings.specs.Valid.{validSettings}
 use Rattle.settings.specs.declared.Refusal.{Refusal}
 use Rattle.settings.specs.declared.Refusal.the-variants.{BadSettings, BadLength, UnknownWord, WrongMode, NoSuchWord, NoPartner, ListEnds, BadNumber, TooManyWords, ExtraBytes}
+use Rattle.settings.specs.declared.Settings.{Settings}
+use Rattle.numbers.specs.Numbers.{put, puts}
 use Rattle.machine.specs.Execute.{rightLengths}
 use Rattle.runlist.specs.Plan.{found, refused, Asked, mostWords, planOf}
 use Rattle.runlist.specs.RunList.{runPaper}
@@ -54,6 +57,35 @@ pub record Fits (z za room : ℕ) (a : Asked) : Type 0 where
 -- what is asked for fits what was lent
 abbrev pub LengthsHold : Type 0
 LengthsHold = (list : List ℕ) (z za room : ℕ) (a : Asked) → planOf list z za room ≡ found a → Fits z za room a
+
+-- ---- lists that are written
+
+-- the seven numbers of settings
+abbrev pub numbersOf : Settings → List ℕ
+numbersOf s = s .vl ∷ s .features .0 ∷ s .modes .0 ∷ s .select
+
+-- "In order: VL, features, modes, W8, W9, W10, W11; the Z bytes as they are; a count n; n words"
+unfoldable pub written : Asked → List ℕ
+written a = puts (numbersOf (a .settings)) ++ (a .z ++ (put (length (a .words)) ++ puts (a .words)))
+
+-- what can be asked for: it fits what is lent, and each number is "below 2^32"
+pub record Askable (z za room : ℕ) (a : Asked) : Type 0 where
+  pub fits : Fits z za room a
+  pub four : length (a .settings .select) ≡ 4
+  pub numbers : Each (λ n. n < 2 ^ 32) (numbersOf (a .settings))
+  pub words : Each (λ n. n < 2 ^ 32) (a .words)
+
+-- whoever writes a list so is understood
+abbrev pub WrittenIsRead : Type 0
+WrittenIsRead = (z za room : ℕ) (a : Asked) → Askable z za room a → planOf (written a) z za room ≡ found a
+
+-- and there is no other way to write it
+abbrev pub OneList : Type 0
+OneList = (list : List ℕ) (z za room : ℕ) (a : Asked) → planOf list z za room ≡ found a → list ≡ written a
+
+-- the longest list is there: at VL 512
+abbrev pub LongestReached : Type 0
+LongestReached = (a : Asked) × (planOf (written a) 2048 4096 (3 * mostWords) ≡ found a) × (length (written a) ≡ longest)
 
 -- ---- what holds of a refused list
 
