@@ -2,14 +2,13 @@
 use Prim.Native.Nat.{ℕ, _+_, _-_, _*_, _/_, _≤_}
 use native.Mathlib.Nat.{le-trans, mul-le-mul-left, mul-le-mul-right}
 use native.Mathlib.Omega.{arith}
-use mathlib.Core.Path.{_≡_, sym, ap, ap₂, _∙_, subst}
-use mathlib.Core.Bool.{true, false, _||_}
+use mathlib.Core.Path.{_≡_, sym, ap, ap₂, _∙_}
+use mathlib.Core.Bool.{true, false}
 use mathlib.Core.List.{List}
-use lib.Dec.{eqb, lit≤}
+use lib.Dec.{lit≤}
 use lib.ListN.{take, replicate, length-replicate, replicate-append-replicate}
 use lib.Seq.{take-at}
-use borrow.Author.Tests.{eqb-true}
-use Rattle.laws.proofs.Tests.{either}
+use Rattle.settings.proofs.Lengths.{by-length}
 use Rattle.settings.specs.Valid.{validLength}
 use Rattle.numbers.specs.declared.Read.{Read}
 use Rattle.numbers.specs.declared.Read.the-variants.{Number}
@@ -17,13 +16,7 @@ use Rattle.lamp.specs.Lamp.{linesOf, registerOf, registerBytes, printed}
 
 -- 512 bits are the most
 most : (vl : ℕ) → validLength vl ≡ true → vl / 8 ≤ 64
-most vl v =
-    either (eqb vl 128 || eqb vl 256) (eqb vl 512) v
-    (λ p. either (eqb vl 128) (eqb vl 256) p (is 128 (lit≤ tt)) (is 256 (lit≤ tt)))
-    (is 512 (lit≤ tt))
-  where
-    is : (n : ℕ) → n / 8 ≤ 64 → eqb vl n ≡ true → vl / 8 ≤ 64
-    is n h e = subst (λ (k : ℕ). k / 8 ≤ 64) (sym (eqb-true vl n e)) h
+most vl v = by-length vl v (λ n. n / 8 ≤ 64) (lit≤ tt) (lit≤ tt) (lit≤ tt)
 
 module _ (first : Read) (vl next : ℕ) (e : first ≡ Number vl next) where
   pub register-valid : validLength vl ≡ true → (vl / 8 ≡ registerOf first) × (vl / 8 ≤ 64)

@@ -1,27 +1,26 @@
 -- The statements of specs/Theorems.antt, proved. Assumes nothing.
-use Prim.Native.Nat.{ℕ, _+_, _*_, _/_, _<_}
+use Prim.Native.Nat.{ℕ, _*_, _/_, _<_}
 use native.Mathlib.Omega.{arith}
 use mathlib.Core.Path.{_≡_, refl, sym, ap, ap₂, _∙_, subst}
-use mathlib.Core.Logic.{_≢_, _⊎_, ⊎-elim}
-use mathlib.Core.Bool.{true, _&&_}
+use mathlib.Core.Logic.{_≢_}
+use mathlib.Core.Bool.{true}
 use mathlib.Core.List.{List}
-use lib.Dec.{eqb, leb}
 use lib.ListN.{length, getD, take, drop, replicate, take-append-drop}
 use lib.Seq.{take-all, length-take-le}
-use borrow.Author.Tests.{eq-eqb, leb-true, leb-false}
-use Rattle.laws.proofs.Tests.{both, never-both, by-lt, cond-holds}
-use Rattle.settings.specs.Valid.{validLength, validFeatures, validModes, validSettings, vectorBytes, arrayBytes}
+use borrow.Author.Tests.{eq-eqb}
+use Rattle.laws.proofs.Tests.{never-both, by-lt}
+use Rattle.settings.specs.Valid.{validLength, validSettings, vectorBytes, arrayBytes}
 use Rattle.settings.specs.declared.Refusal.{Refusal}
 use Rattle.settings.specs.declared.Refusal.the-variants.{BadSettings, BadLength, ListEnds, BadNumber, TooManyWords, ExtraBytes}
-use Rattle.settings.specs.declared.Settings.{Settings}
-use Rattle.numbers.specs.Numbers.{Numbers, all, fault, numberAt, numbersAt}
-use Rattle.numbers.specs.declared.Read.{Read}
-use Rattle.numbers.specs.declared.Read.the-variants.{Number, Fault}
-use Rattle.numbers.proofs.Places.{number-far, number-fault}
-use Rattle.numbers.proofs.Rows.{row-first, row-fault}
+use Rattle.settings.specs.Refused.{refusalNumber}
+use Rattle.settings.proofs.Lengths.{valid-parts}
+use Rattle.numbers.specs.Numbers.{all, numberAt, numbersAt}
+use Rattle.numbers.proofs.Places.{number-far}
+use Rattle.numbers.proofs.Rows.{row-first}
 use Rattle.machine.specs.Execute.{rightLengths}
-use Rattle.runlist.specs.Plan.{Found, found, refused, mostWords, endedAt, afterCount, wordsFrom, asking, zLength, zFrom, settledFrom, settingsOf, headed, planOf}
+use Rattle.runlist.specs.Plan.{mostWords, settingsOf}
 use Rattle.runlist.specs.Theorems.{longest}
+use Rattle.runlist.proofs.Lists.{Refusing, Causes, by-cause}
 use Rattle.runlist.proofs.Theorems.{enough-bytes, run-of-enough}
 use Rattle.lamp.specs.Lamp.{wordsOf, textOf, linesOf, registerOf, registerBytes, printed}
 use Rattle.lamp.specs.Theorems.{EnoughRead, NeverBadLength}
@@ -50,79 +49,31 @@ enough-read k h list =
 
 -- ---- what is lent is as long as the list asks for
 
--- no refusal, or another than 2
-abbrev Other : {A : Type 0} → Found A → Type 0
-Other (found a) = Unit {0}
-Other (refused r p) = r ≢ BadLength
+-- the lengths are those of the VL that the settings have
+lent-right : (list head : List ℕ) (p : ℕ) → numbersAt list 0 7 ≡ all head p → validSettings (settingsOf head) ≡ true
+    → rightLengths (settingsOf head) (32 * registerBytes list) (registerBytes list * registerBytes list) ≡ true
+unfolding vectorBytes arrayBytes settingsOf registerBytes
+lent-right list head p e v =
+    let vl : ℕ = getD head 0 0 in
+    let l : validLength vl ≡ true = valid-parts (settingsOf head) v .0 in
+    let w : registerOf (numberAt list 0) ≡ vl / 8 = ap registerOf (row-first list 0 6 head p e .1) ∙ rw l in
+    rw (w, eq-eqb (32 * (vl / 8)) (32 * (vl / 8)) refl, eq-eqb (vl / 8 * (vl / 8)) (vl / 8 * (vl / 8)) refl)
 
--- a faulty number has its own refusals
-of-number : (r : Refusal) → (r ≡ ListEnds) ⊎ (r ≡ BadNumber) → r ≢ BadLength
-of-number r =
-    ⊎-elim
-    (λ (e : r ≡ ListEnds) (f : r ≡ BadLength). let z : _≡_ {A = ℕ} 0 1 = cc in omega arith)
-    (λ (e : r ≡ BadNumber) (f : r ≡ BadLength). let z : _≡_ {A = ℕ} 0 1 = cc in omega arith)
+another : (r : Refusal) → refusalNumber r ≢ 2 → r ≢ BadLength
+another r h e = h (ap refusalNumber e)
 
-not-extra : ExtraBytes ≢ BadLength
-not-extra e = let z : _≡_ {A = ℕ} 0 1 = cc in omega arith
-
-not-many : TooManyWords ≢ BadLength
-not-many e = let z : _≡_ {A = ℕ} 0 1 = cc in omega arith
-
-not-ends : ListEnds ≢ BadLength
-not-ends e = let z : _≡_ {A = ℕ} 0 1 = cc in omega arith
-
-not-settings : BadSettings ≢ BadLength
-not-settings e = let z : _≡_ {A = ℕ} 0 1 = cc in omega arith
-
-module _ (list : List ℕ) where
-  other-end : (at n : ℕ) (m : Numbers) → numbersAt list at n ≡ m → Other (endedAt list m)
-  other-end at n (all ws p) e = cond-holds Other (eqb p (length list)) (found ws) (refused ExtraBytes p) (λ t. tt) (λ t. not-extra)
-  other-end at n (fault vs r p) e = of-number r (row-fault list at n vs r p e)
-
-  -- the report has room for as many words as a list may have
-  other-count : (at : ℕ) (r : Read) → numberAt list at ≡ r → Other (afterCount list (3 * mostWords) at r)
-  other-count at (Number n p) e =
-      cond-holds Other (leb n mostWords) _ (refused TooManyWords at)
-      (λ t. cond-holds Other (leb (3 * n) (3 * mostWords)) _ (refused BadLength 0)
-      (λ k. other-end p n (numbersAt list p n) refl)
-      (λ k. absurd (omega (arith, leb-true n mostWords t, leb-false (3 * n) (3 * mostWords) k))))
-      (λ t. not-many)
-  other-count at (Fault r p) e = of-number r (number-fault list at r p e .1)
-
-  other-asking : (s : Settings) (z : List ℕ) (w : Found (List ℕ)) → Other w → Other (asking s z w)
-  other-asking s z (found ws) h = tt
-  other-asking s z (refused r p) h = h
-
-  other-z : (s : Settings) (at : ℕ) → Other (zFrom list (3 * mostWords) s at)
-  unfolding zFrom wordsFrom
-  other-z s at =
-      cond-holds Other (leb (at + zLength s) (length list)) _ (refused ListEnds at)
-      (λ t. other-asking s (take (zLength s) (drop at list)) (wordsFrom list (3 * mostWords) (at + zLength s))
-      (other-count (at + zLength s) (numberAt list (at + zLength s)) refl))
-      (λ t. not-ends)
-
-  -- the lengths are those of the VL that the settings have
-  lent-right : (head : List ℕ) (p : ℕ) → numbersAt list 0 7 ≡ all head p → validSettings (settingsOf head) ≡ true
-      → rightLengths (settingsOf head) (32 * registerBytes list) (registerBytes list * registerBytes list) ≡ true
-  unfolding validSettings vectorBytes arrayBytes settingsOf registerBytes
-  lent-right head p e v =
-      let vl : ℕ = getD head 0 0 in
-      let l : validLength vl ≡ true =
-      both (validLength vl) (validFeatures (getD head 1 0)) (both (validLength vl && validFeatures (getD head 1 0)) (validModes (getD head 1 0) (getD head 2 0)) v .0) .0 in
-      let f = row-first list 0 6 head p e in
-      let w : registerOf (numberAt list 0) ≡ vl / 8 = ap registerOf (f .1) ∙ rw l in
-      rw (w, eq-eqb (32 * (vl / 8)) (32 * (vl / 8)) refl, eq-eqb (vl / 8 * (vl / 8)) (vl / 8 * (vl / 8)) refl)
-
-  other-row : (m : Numbers) → numbersAt list 0 7 ≡ m → Other (headed list (32 * registerBytes list) (registerBytes list * registerBytes list) (3 * mostWords) m)
-  unfolding settledFrom
-  other-row (all head at) e =
-      cond-holds Other (validSettings (settingsOf head)) _ (refused BadSettings 0)
-      (λ v. cond-holds Other (rightLengths (settingsOf head) (32 * registerBytes list) (registerBytes list * registerBytes list)) _ (refused BadLength 0)
-      (λ l. other-z (settingsOf head) at)
-      (λ l. absurd (never-both _ (lent-right head at e v) l)))
-      (λ v. not-settings)
-  other-row (fault vs r p) e = of-number r (row-fault list 0 7 vs r p e)
+-- the two causes of 2 are not there: the lengths are right, and the report has room for as many words as a list may have
+others : (list : List ℕ) → Causes list (32 * registerBytes list) (registerBytes list * registerBytes list) (3 * mostWords) (λ r p. r ≢ BadLength)
+others list =
+    record {
+      ends = λ p h. another ListEnds (λ (e : 7 ≡ 2). omega arith);
+      bad = λ p h. another BadNumber (λ (e : 8 ≡ 2). omega arith);
+      settings = another BadSettings (λ (e : 1 ≡ 2). omega arith);
+      lengths = λ head at e v l. absurd (never-both _ (lent-right list head at e v) l);
+      report = λ n h k. absurd (omega arith);
+      many = λ p h. another TooManyWords (λ (e : 9 ≡ 2). omega arith);
+      extra = λ p h. another ExtraBytes (λ (e : 10 ≡ 2). omega arith);
+    }
 
 pub never-bad-length : NeverBadLength
-unfolding planOf
-never-bad-length list p e = subst Other e (other-row list (numbersAt list 0 7) refl) refl
+never-bad-length list p e = subst (Refusing (λ r p. r ≢ BadLength)) e (by-cause list _ _ _ (λ r p. r ≢ BadLength) (others list)) refl

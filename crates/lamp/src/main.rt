@@ -49,7 +49,7 @@ fn register_of(first: Read) -> usize
 }
 
 // The words of an accepted list, read again, since the report does not hold them.
-fn read_words(list: &[u8], z: usize, za: usize, room: usize, words: &mut [u32])
+fn words_again(list: &[u8], z: usize, za: usize, room: usize, words: &mut [u32])
     requires { ⌜ length (now words) ≡ mostWords ⌝ }
     ensures { λ _. ⌜ WordsAgain (now (list .entry)) z za room (now (words .exit)) ⌝ }
 {
@@ -58,7 +58,7 @@ fn read_words(list: &[u8], z: usize, za: usize, room: usize, words: &mut [u32])
 }
 
 // Runs the list with what is lent, and puts the text of the answer into `out`.
-fn put_lines(
+fn put_answer(
     list: &[u8],
     z: &mut [u8],
     za: &mut [u8],
@@ -80,7 +80,7 @@ fn put_lines(
             words: count,
             tally,
         } => {
-            read_words(list, z.len(), za.len(), report.len(), words);
+            words_again(list, z.len(), za.len(), report.len(), words);
             lines::put_ran(out, &words[..count], report, tally.toggled, tally.written)
         }
     }
@@ -97,7 +97,7 @@ fn put_printed(list: &[u8], out: &mut [u8]) -> usize
     let mut za = [0u8; MOST_ZA];
     let mut report = [0u32; REPORT];
     let mut words = [0u32; runlist::MOST_WORDS];
-    put_lines(
+    put_answer(
         list,
         &mut z[..32 * bytes],
         &mut za[..bytes * bytes],
@@ -114,16 +114,16 @@ fn input_room() -> [u8; INPUT]
     [0; INPUT]
 }
 
-fn read_some() -> bool {
+fn drain_some() -> bool {
     let mut buffer = io::buffer();
     libc::read(STDIN_FILENO, &mut buffer) > 0
 }
 
 // Reads the rest of the input, so that whoever writes it is not cut off. A proved loop has to end, and nothing says that
 // the input does: the turns are more than any run takes.
-fn read_to_end() {
+fn drain_input() {
     let mut turns = u64::MAX;
-    while turns > 0 && read_some() {
+    while turns > 0 && drain_some() {
         turns -= 1;
     }
 }
@@ -132,7 +132,7 @@ fn main() {
     let mut input = input_room();
     let got = io::read_full(STDIN_FILENO, &mut input);
     if got == INPUT {
-        read_to_end();
+        drain_input();
     }
     let mut out = [0u8; TEXT];
     let length = put_printed(&input[..got], &mut out);

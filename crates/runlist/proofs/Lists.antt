@@ -1,4 +1,4 @@
--- What an accepted list is made of, what a refusal says, and that bytes far from a list's beginning change nothing. Assumes nothing.
+-- What an accepted list is made of, what holds of a refused one, and that bytes far from the beginning change nothing. Assumes nothing.
 use Prim.Native.Nat.{ℕ, _+_, _*_, _≤_, _<_}
 use native.Mathlib.Omega.{arith}
 use mathlib.Core.Path.{_≡_, refl, sym, ap, ap₂, _∙_, subst}
@@ -8,13 +8,13 @@ use mathlib.Core.List.{List, [], _∷_, _++_}
 use lib.Dec.{leb, eqb, ltb}
 use lib.ListN.{length, take, drop, length-append, length-drop}
 use lib.Seq.{take-append-le, drop-append-le}
-use borrow.Author.Tests.{leb-true, le-leb, eqb-true, ne-eqb, ltb-true}
+use borrow.Author.Tests.{leb-true, leb-false, le-leb, eqb-true, ne-eqb, ltb-true}
 use Rattle.laws.proofs.Tests.{both, by-cond, cond-holds}
-use Rattle.settings.specs.Valid.{validLength, validFeatures, validModes, validSettings}
+use Rattle.settings.specs.Valid.{validSettings}
 use Rattle.settings.specs.declared.Refusal.{Refusal}
 use Rattle.settings.specs.declared.Refusal.the-variants.{BadSettings, BadLength, ListEnds, BadNumber, TooManyWords, ExtraBytes}
 use Rattle.settings.specs.declared.Settings.{Settings}
-use Rattle.settings.proofs.Lengths.{vector-at-most, vector-bits}
+use Rattle.settings.proofs.Lengths.{valid-parts, vector-at-most, vector-bits}
 use Rattle.numbers.specs.Numbers.{Numbers, all, fault, numberAt, numbersAt}
 use Rattle.numbers.specs.declared.Read.{Read}
 use Rattle.numbers.specs.declared.Read.the-variants.{Number, Fault}
@@ -23,7 +23,7 @@ use Rattle.numbers.proofs.Places.{number-far, number-within, number-fault}
 use Rattle.numbers.proofs.Rows.{row-count, row-within, row-far, row-fault, row-fault-within, putLengths, put-lengths-few, row-place}
 use Rattle.machine.specs.Execute.{rightLengths}
 use Rattle.runlist.specs.Plan.{Found, found, refused, Asked, mostWords, endedAt, afterCount, wordsFrom, asking, zLength, zFrom, settledFrom, settingsOf, headed, planOf}
-use Rattle.runlist.specs.Theorems.{longest, OfList}
+use Rattle.runlist.specs.Theorems.{longest}
 use Rattle.runlist.proofs.Plans.{z-right}
 
 -- the Z bytes, where their length is exact
@@ -128,56 +128,68 @@ module _ (list : List ℕ) (z za room : ℕ) (a : Asked) where
   unfolding planOf
   made = made-row (numbersAt list 0 7) refl
 
--- ---- what a refusal says
+-- ---- what holds of a refused list
 
--- its place is in the list or at its end, and it is one of a list's
-abbrev pub Told : {A : Type 0} → ℕ → Found A → Type 0
-Told size (found a) = Unit {0}
-Told size (refused r p) = (p ≤ size) × OfList r p
+-- Q of the refusal and its place
+abbrev pub Refusing : {A : Type 0} → (Refusal → ℕ → Type 0) → Found A → Type 0
+Refusing Q (found a) = Unit {0}
+Refusing Q (refused r p) = Q r p
 
-of-number : (r : Refusal) (p : ℕ) → (r ≡ ListEnds) ⊎ (r ≡ BadNumber) → OfList r p
-of-number r p = ⊎-elim (λ e. subst (λ (x : Refusal). OfList x p) (sym e) tt) (λ e. subst (λ (x : Refusal). OfList x p) (sym e) tt)
+-- what a list is refused for, and where: Q of each
+pub record Causes (list : List ℕ) (z za room : ℕ) (Q : Refusal → ℕ → Type 0) : Type 0 where
+  pub ends : (p : ℕ) → p ≤ length list → Q ListEnds p
+  pub bad : (p : ℕ) → p ≤ length list → Q BadNumber p
+  pub settings : Q BadSettings 0
+  pub lengths : (head : List ℕ) (at : ℕ) → numbersAt list 0 7 ≡ all head at → validSettings (settingsOf head) ≡ true
+      → rightLengths (settingsOf head) z za ≡ false → Q BadLength 0
+  pub report : (n : ℕ) → n ≤ mostWords → room < 3 * n → Q BadLength 0
+  pub many : (p : ℕ) → p ≤ length list → Q TooManyWords p
+  pub extra : (p : ℕ) → p ≤ length list → Q ExtraBytes p
 
-module _ (list : List ℕ) where
-  told-end : (at n : ℕ) (m : Numbers) → at ≤ length list → numbersAt list at n ≡ m → Told (length list) (endedAt list m)
-  told-end at n (all ws p) h e =
-      cond-holds (Told (length list)) (eqb p (length list)) (found ws) (refused ExtraBytes p) (λ t. tt) (λ t. (row-within list at n ws p h e .2, tt))
-  told-end at n (fault vs r p) h e = (row-fault-within list at n vs r p h e .2, of-number r p (row-fault list at n vs r p e))
+module _ (list : List ℕ) (z za room : ℕ) (Q : Refusal → ℕ → Type 0) (c : Causes list z za room Q) where
+  of-number : (r : Refusal) (p : ℕ) → p ≤ length list → (r ≡ ListEnds) ⊎ (r ≡ BadNumber) → Q r p
+  of-number r p h = ⊎-elim (λ e. subst (λ (x : Refusal). Q x p) (sym e) (c .ends p h)) (λ e. subst (λ (x : Refusal). Q x p) (sym e) (c .bad p h))
 
-  told-count : (room at : ℕ) (r : Read) → at ≤ length list → numberAt list at ≡ r → Told (length list) (afterCount list room at r)
-  told-count room at (Number n p) h e =
-      cond-holds (Told (length list)) (leb n mostWords) _ (refused TooManyWords at)
-      (λ t. cond-holds (Told (length list)) (leb (3 * n) room) _ (refused BadLength 0)
-      (λ k. told-end p n (numbersAt list p n) (number-within list at n p e .inside) refl)
-      (λ k. (omega arith, refl)))
-      (λ t. (h, tt))
-  told-count room at (Fault r p) h e = let f = number-fault list at r p e in (omega arith, of-number r p (f .1))
+  by-end : (at n : ℕ) (m : Numbers) → at ≤ length list → numbersAt list at n ≡ m → Refusing Q (endedAt list m)
+  by-end at n (all ws p) h e =
+      cond-holds (Refusing Q) (eqb p (length list)) (found ws) (refused ExtraBytes p) (λ t. tt) (λ t. c .extra p (row-within list at n ws p h e .2))
+  by-end at n (fault vs r p) h e = of-number r p (row-fault-within list at n vs r p h e .2) (row-fault list at n vs r p e)
 
-  told-asking : (s : Settings) (z : List ℕ) (w : Found (List ℕ)) → Told (length list) w → Told (length list) (asking s z w)
-  told-asking s z (found ws) h = tt
-  told-asking s z (refused r p) h = h
+  by-count : (at : ℕ) (r : Read) → at ≤ length list → numberAt list at ≡ r → Refusing Q (afterCount list room at r)
+  by-count at (Number n p) h e =
+      cond-holds (Refusing Q) (leb n mostWords) _ (refused TooManyWords at)
+      (λ t. cond-holds (Refusing Q) (leb (3 * n) room) _ (refused BadLength 0)
+      (λ k. by-end p n (numbersAt list p n) (number-within list at n p e .inside) refl)
+      (λ k. c .report n (leb-true n mostWords t) (leb-false (3 * n) room k)))
+      (λ t. c .many at h)
+  by-count at (Fault r p) h e = let f = number-fault list at r p e in of-number r p (omega arith) (f .1)
 
-  told-z : (room : ℕ) (s : Settings) (at : ℕ) → at ≤ length list → Told (length list) (zFrom list room s at)
+  by-asking : (s : Settings) (bytes : List ℕ) (w : Found (List ℕ)) → Refusing Q w → Refusing Q (asking s bytes w)
+  by-asking s bytes (found ws) h = tt
+  by-asking s bytes (refused r p) h = h
+
+  by-z : (s : Settings) (at : ℕ) → at ≤ length list → Refusing Q (zFrom list room s at)
   unfolding zFrom wordsFrom
-  told-z room s at h =
-      cond-holds (Told (length list)) (leb (at + zLength s) (length list)) _ (refused ListEnds at)
-      (λ t. told-asking s (take (zLength s) (drop at list)) (wordsFrom list room (at + zLength s))
-      (told-count room (at + zLength s) (numberAt list (at + zLength s)) (leb-true (at + zLength s) (length list) t) refl))
-      (λ t. (h, tt))
+  by-z s at h =
+      cond-holds (Refusing Q) (leb (at + zLength s) (length list)) _ (refused ListEnds at)
+      (λ t. by-asking s (take (zLength s) (drop at list)) (wordsFrom list room (at + zLength s))
+      (by-count (at + zLength s) (numberAt list (at + zLength s)) (leb-true (at + zLength s) (length list) t) refl))
+      (λ t. c .ends at h)
 
-  told-row : (z za room : ℕ) (m : Numbers) → numbersAt list 0 7 ≡ m → Told (length list) (headed list z za room m)
+  by-row : (m : Numbers) → numbersAt list 0 7 ≡ m → Refusing Q (headed list z za room m)
   unfolding settledFrom
-  told-row z za room (all head at) e =
-      cond-holds (Told (length list)) (validSettings (settingsOf head)) _ (refused BadSettings 0)
-      (λ v. cond-holds (Told (length list)) (rightLengths (settingsOf head) z za) _ (refused BadLength 0)
-      (λ l. told-z room (settingsOf head) at (row-within list 0 7 head at (omega arith) e .2))
-      (λ l. (omega arith, refl)))
-      (λ v. (omega arith, refl))
-  told-row z za room (fault vs r p) e = (row-fault-within list 0 7 vs r p (omega arith) e .2, of-number r p (row-fault list 0 7 vs r p e))
+  by-row (all head at) e =
+      cond-holds (Refusing Q) (validSettings (settingsOf head)) _ (refused BadSettings 0)
+      (λ v. cond-holds (Refusing Q) (rightLengths (settingsOf head) z za) _ (refused BadLength 0)
+      (λ l. by-z (settingsOf head) at (row-within list 0 7 head at (omega arith) e .2))
+      (λ l. c .lengths head at e v l))
+      (λ v. c .settings)
+  by-row (fault vs r p) e = of-number r p (row-fault-within list 0 7 vs r p (omega arith) e .2) (row-fault list 0 7 vs r p e)
 
-  pub told : (z za room : ℕ) → Told (length list) (planOf list z za room)
+  -- what holds of each cause holds of the list
+  pub by-cause : Refusing Q (planOf list z za room)
   unfolding planOf
-  told z za room = told-row z za room (numbersAt list 0 7) refl
+  by-cause = by-row (numbersAt list 0 7) refl
 
 -- ---- bytes far from the beginning
 
@@ -186,20 +198,11 @@ first-part : (x y z : Bool) → (x && y && z) ≡ true → x ≡ true
 first-part x y z e = both x y (both (x && y) z e .0) .0
 
 module _ (s : Settings) (v : validSettings s ≡ true) where
-  features-valid : validFeatures (s .features .0) ≡ true
-  unfolding validSettings
-  features-valid =
-      both (validLength (s .vl)) (validFeatures (s .features .0)) (both (validLength (s .vl) && validFeatures (s .features .0)) (validModes (s .features .0) (s .modes .0)) v .0) .1
-
-  modes-valid : validModes (s .features .0) (s .modes .0) ≡ true
-  unfolding validSettings
-  modes-valid = both (validLength (s .vl) && validFeatures (s .features .0)) (validModes (s .features .0) (s .modes .0)) v .1
-
   features-few : s .features .0 < 32
-  features-few = ltb-true (s .features .0) 32 (first-part (ltb (s .features .0) 32) _ _ features-valid)
+  features-few = ltb-true (s .features .0) 32 (first-part (ltb (s .features .0) 32) _ _ (valid-parts s v .1))
 
   modes-few : s .modes .0 < 4
-  modes-few = ltb-true (s .modes .0) 4 (first-part (ltb (s .modes .0) 4) _ _ modes-valid)
+  modes-few = ltb-true (s .modes .0) 4 (first-part (ltb (s .modes .0) 4) _ _ (valid-parts s v .2))
 
   length-few : s .vl ≤ 512
   length-few = omega (arith, vector-at-most s v, vector-bits s v)

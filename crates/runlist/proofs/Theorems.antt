@@ -1,5 +1,5 @@
 -- The statements of specs/Theorems.antt, proved. Assumes nothing.
-use Prim.Native.Nat.{ℕ, _+_, _<_}
+use Prim.Native.Nat.{ℕ, _+_, _≤_, _<_}
 use native.Mathlib.Omega.{arith}
 use native.Mathlib.Decide.{decLe}
 use mathlib.Core.Path.{_≡_, refl, sym, ap, _∙_, subst}
@@ -8,15 +8,16 @@ use mathlib.Core.List.{List, [], _∷_, _++_}
 use lib.ListN.{length, take, drop, length-append, length-drop, take-append-drop}
 use lib.Seq.{length-take-le, take-all}
 use borrow.Author.Tests.{ne-eqb}
+use Rattle.settings.specs.declared.Refusal.{Refusal}
 use Rattle.settings.specs.declared.Refusal.the-variants.{ExtraBytes}
 use Rattle.settings.specs.declared.Settings.{Settings}
 use Rattle.numbers.proofs.Places.{number-kept}
 use Rattle.numbers.proofs.Rows.{row-kept}
 use Rattle.runlist.specs.Plan.{Found, found, refused, Asked, endedAt, wordsFrom, asking, settledFrom, headed, planOf}
 use Rattle.runlist.specs.RunList.{carriedOut, runPaper}
-use Rattle.runlist.specs.Theorems.{longest, AtMostLongest, OnlyWhole, FirstBytesDecide, EnoughBytes, RunOfEnough, LengthsHold, PlaceInside, RefusedWith}
+use Rattle.runlist.specs.Theorems.{longest, AtMostLongest, OnlyWhole, FirstBytesDecide, EnoughBytes, RunOfEnough, LengthsHold, PlaceInside, OfList, RefusedWith}
 use Rattle.runlist.proofs.Plans.{words-counted, z-read}
-use Rattle.runlist.proofs.Lists.{Worded, Made, made, Told, told, far}
+use Rattle.runlist.proofs.Lists.{Worded, Made, made, Refusing, by-cause, far}
 
 -- ---- how long a list can be
 
@@ -86,8 +87,25 @@ lengths-hold list z za room a e =
 
 -- ---- what holds of a refused list
 
+-- the place is in the list or at its end, and the refusal is one of a list's
+abbrev Told : ℕ → Refusal → ℕ → Type 0
+Told size r p = (p ≤ size) × OfList r p
+
+told : (list : List ℕ) (z za room : ℕ) → Refusing (Told (length list)) (planOf list z za room)
+told list z za room =
+    by-cause list z za room (Told (length list))
+    (record {
+      ends = λ p h. (h, tt);
+      bad = λ p h. (h, tt);
+      settings = (omega arith, refl);
+      lengths = λ head at e v l. (omega arith, refl);
+      report = λ n h k. (omega arith, refl);
+      many = λ p h. (h, tt);
+      extra = λ p h. (h, tt);
+    })
+
 pub place-inside : PlaceInside
-place-inside list z za room r p e = subst (Told (length list)) e (told list z za room) .0
+place-inside list z za room r p e = subst (Refusing (Told (length list))) e (told list z za room) .0
 
 pub refused-with : RefusedWith
-refused-with list z za room r p e = subst (Told (length list)) e (told list z za room) .1
+refused-with list z za room r p e = subst (Refusing (Told (length list))) e (told list z za room) .1

@@ -9,19 +9,28 @@ use Rattle.settings.specs.Lengths.{VectorLength}
 use Rattle.settings.specs.Valid.{validLength, validFeatures, validModes, validSettings, vectorBytes, arrayBytes}
 use Rattle.settings.specs.declared.Settings.{Settings}
 
+-- what valid settings say of each part
+pub valid-parts : (s : Settings) → validSettings s ≡ true
+    → (validLength (s .vl) ≡ true) × (validFeatures (s .features .0) ≡ true) × (validModes (s .features .0) (s .modes .0) ≡ true)
+unfolding validSettings
+valid-parts s v =
+    let first = both (validLength (s .vl) && validFeatures (s .features .0)) (validModes (s .features .0) (s .modes .0)) v in
+    let parts = both (validLength (s .vl)) (validFeatures (s .features .0)) (first .0) in
+    (parts .0, parts .1, first .1)
+
+-- what holds of the three lengths holds of every valid one
+pub by-length : (vl : ℕ) → validLength vl ≡ true → (P : ℕ → Type 0) → P 128 → P 256 → P 512 → P vl
+by-length vl l P a b c =
+    either (eqb vl 128 || eqb vl 256) (eqb vl 512) l
+    (λ p. either (eqb vl 128) (eqb vl 256) p (λ q. is 128 q a) (λ q. is 256 q b))
+    (λ q. is 512 q c)
+  where
+    is : (n : ℕ) → eqb vl n ≡ true → P n → P vl
+    is n q = subst P (sym (eqb-true vl n q))
+
 module _ (s : Settings) (v : validSettings s ≡ true) where
-  -- what holds of the three lengths holds of VL
   by-vl : (P : ℕ → Type 0) → P 128 → P 256 → P 512 → P (s .vl)
-  unfolding validSettings
-  by-vl P a b c =
-      let l =
-      both (validLength (s .vl)) (validFeatures (s .features .0)) (both (validLength (s .vl) && validFeatures (s .features .0)) (validModes (s .features .0) (s .modes .0)) v .0) .0 in
-      either (eqb (s .vl) 128 || eqb (s .vl) 256) (eqb (s .vl) 512) l
-      (λ p. either (eqb (s .vl) 128) (eqb (s .vl) 256) p (λ q. is 128 q a) (λ q. is 256 q b))
-      (λ q. is 512 q c)
-    where
-      is : (n : ℕ) → eqb (s .vl) n ≡ true → P n → P (s .vl)
-      is n q = subst P (sym (eqb-true (s .vl) n q))
+  by-vl = by-length (s .vl) (valid-parts s v .0)
 
   vector : VectorLength (s .vl / 8)
   vector =

@@ -1,9 +1,9 @@
--- `lamp::read_words` meets its contract. Assumes nothing.
+-- `lamp::words_again` meets its contract. Assumes nothing.
 use mathlib.Core.Path.{_∙_}
 use Rattle.lamp.proofs.Text.{words-again}
 use borrow.Author.Needs.{needs}
-use Rattle.lamp.proofs.read_words.Statement.{statement}
-use Rattle.lamp.proofs.read_words.Tie as tie
+use Rattle.lamp.proofs.words_again.Statement.{statement}
+use Rattle.lamp.proofs.words_again.Tie as tie
 
 slice-aggregate-read-list : tie.Need-slice-aggregate-read-list
 slice-aggregate-read-list c = search needs
@@ -19,6 +19,6 @@ returns c =
     let r = c .before .before .before in
     words-again _ _ _ _ _ (r .read-list .kept .1 .1 .1 .1 .1 .0 ∙ r .before .before .before .before .before .pre) (r .read-list .result) _ (r .read-list .ensures .says) (r .read-list .ensures .fits)
 
-pub read-words-spec : {M : Type 1} → statement M
-read-words-spec =
+pub words-again-spec : {M : Type 1} → statement M
+words-again-spec =
     tie.close (tie.spec slice-aggregate-read-list read-list-requires same-length returns)

@@ -1,4 +1,4 @@
--- `lamp::put_lines` meets its contract. Assumes nothing.
+-- `lamp::put_answer` meets its contract. Assumes nothing.
 use Prim.Native.Nat.{ℕ, _*_, _≤_}
 use native.Mathlib.Omega.{arith}
 use mathlib.Core.Path.{_≡_, sym, ap, _∙_}
@@ -12,8 +12,8 @@ use Rattle.lines.proofs.Pieces.{said}
 use Rattle.lamp.specs.Lamp.{wordsOf}
 use Rattle.lamp.proofs.Text.{accepted, front, text-ran, text-refused}
 use borrow.Author.Needs.{needs}
-use Rattle.lamp.proofs.put_lines.Statement.{statement}
-use Rattle.lamp.proofs.put_lines.Tie as tie
+use Rattle.lamp.proofs.put_answer.Statement.{statement}
+use Rattle.lamp.proofs.put_answer.Tie as tie
 
 -- the places that the answers speak of: the entry, the run, and what was counted
 abbrev entry : tie.After-run → tie.Start
@@ -22,7 +22,7 @@ entry c = c .before .before .before .before .before .before .before .before .bef
 abbrev ran : tie.After-count → tie.After-run
 ran c = c .before .before .before .before .before .before .before .before
 
-abbrev counted : tie.After-read-words → tie.After-count
+abbrev counted : tie.After-words-again → tie.After-count
 counted c = c .before .before .before
 
 abbrev count : tie.After-count → ℕ
@@ -39,17 +39,17 @@ promised c =
     ∙ ran c .run .ensures
 
 -- the words stand in front, and they are few enough
-words-there : (c : tie.After-read-words)
-    → (take (count (counted c)) (c .read-words .last .1 .1 .1 .1 .0) ≡ wordsOf (asked (ran (counted c))))
+words-there : (c : tie.After-words-again)
+    → (take (count (counted c)) (c .words-again .last .1 .1 .1 .1 .0) ≡ wordsOf (asked (ran (counted c))))
     × (count (counted c) ≤ mostWords) × (3 * count (counted c) ≤ length (entry (ran (counted c)) .args .report .now))
 words-there c =
     let r = ran (counted c) in
     front _ _ _ _ _ _ (accepted _ _ _ _ _ _ _ _ _ (promised (counted c)))
-    (rw (r .run .kept .1 .0, r .run .kept .1 .1 .0, r .run .kept .1 .1 .1 .0) at (c .read-words .ensures))
+    (rw (r .run .kept .1 .0, r .run .kept .1 .1 .0, r .run .kept .1 .1 .1 .0) at (c .words-again .ensures))
 
-as-many : (c : tie.After-read-words) → length (take (count (counted c)) (c .read-words .last .1 .1 .1 .1 .0)) ≡ count (counted c)
+as-many : (c : tie.After-words-again) → length (take (count (counted c)) (c .words-again .last .1 .1 .1 .1 .0)) ≡ count (counted c)
 as-many c =
-    length-take-le _ _ (omega (arith, words-there c .1, c .read-words .kept .1 .1 .1 .1 .0, entry (ran (counted c)) .pre .0))
+    length-take-le _ _ (omega (arith, words-there c .1, c .words-again .kept .1 .1 .1 .1 .0, entry (ran (counted c)) .pre .0))
 
 run-requires : tie.Need-run-requires
 run-requires c κs = search needs
@@ -66,13 +66,13 @@ put-refused-requires c κs = search needs
 enum-known-count : tie.Need-enum-known-count
 enum-known-count c = search needs
 
-read-words-requires : tie.Need-read-words-requires
-read-words-requires c κs = search needs
+words-again-requires : tie.Need-words-again-requires
+words-again-requires c κs = search needs
 
 slice-reshare-prefix-put-ran : tie.Need-slice-reshare-prefix-put-ran
 slice-reshare-prefix-put-ran c =
     let x = c .before .before .before in
-    omega (arith, words-there x .1, x .read-words .kept .1 .1 .1 .1 .0, entry (ran (counted x)) .pre .0)
+    omega (arith, words-there x .1, x .words-again .kept .1 .1 .1 .1 .0, entry (ran (counted x)) .pre .0)
 
 slice-aggregate-put-ran : tie.Need-slice-aggregate-put-ran
 slice-aggregate-put-ran c = sym (as-many (c .before .before .before .before))
@@ -128,8 +128,8 @@ returns-2 c =
     let x = w .before .before .before .before .before .before in
     (said (text-ran _ _ _ _ _ _ _ _ _ _ (promised (counted x)) (words-there x .0)) (w .put-ran .ensures .0), w .put-ran .ensures .1)
 
-pub put-lines-spec : {M : Type 1} → statement M
-put-lines-spec =
+pub put-answer-spec : {M : Type 1} → statement M
+put-answer-spec =
     tie.close
     (tie.spec
     run-requires
@@ -137,7 +137,7 @@ put-lines-spec =
     refusal-number-requires
     put-refused-requires
     enum-known-count
-    read-words-requires
+    words-again-requires
     slice-reshare-prefix-put-ran
     slice-aggregate-put-ran
     put-ran-requires

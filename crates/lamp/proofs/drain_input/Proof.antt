@@ -1,7 +1,7 @@
--- `lamp::read_to_end` ends: the turns that are left fall. Assumes nothing.
+-- `lamp::drain_input` ends: the turns that are left fall. Assumes nothing.
 use native.Mathlib.Omega.{arith}
-use Rattle.lamp.proofs.read_to_end.Statement.{statement}
-use Rattle.lamp.proofs.read_to_end.Tie as tie
+use Rattle.lamp.proofs.drain_input.Statement.{statement}
+use Rattle.lamp.proofs.drain_input.Tie as tie
 
 abbrev Inv-loop : tie.InvT-loop
 Inv-loop turns₀ turns = Unit {0}
@@ -12,8 +12,8 @@ abbrev μ-loop : tie.MeasureT-loop
 loop-holds : tie.Need-loop-holds Inv-loop μ-loop
 loop-holds c = tt
 
-read-some-requires : tie.Need-read-some-requires Inv-loop μ-loop
-read-some-requires c κs = tt
+drain-some-requires : tie.Need-drain-some-requires Inv-loop μ-loop
+drain-some-requires c κs = tt
 
 sub-turns : tie.Need-sub-turns Inv-loop μ-loop
 sub-turns c = omega arith
@@ -30,14 +30,14 @@ returns c = tt
 returns-2 : tie.Need-returns-2 Inv-loop μ-loop
 returns-2 c = tt
 
-pub read-to-end-spec : {M : Type 1} → statement M
-read-to-end-spec =
+pub drain-input-spec : {M : Type 1} → statement M
+drain-input-spec =
     tie.close
     (tie.spec
     Inv-loop
     μ-loop
     loop-holds
-    read-some-requires
+    drain-some-requires
     sub-turns
     loop-less
     loop-again
