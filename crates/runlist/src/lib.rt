@@ -41,7 +41,7 @@ enum Words {
 }
 
 // The settings of the seven numbers in front.
-fn settings_of(head: &[u32]) -> Settings
+pub fn settings_of(head: &[u32]) -> Settings
     requires { ⌜ length (now head) ≡ 7 ⌝ }
     ensures { λ r. ⌜ r ≡ settingsOf (now (head .entry)) ⌝ }
 {

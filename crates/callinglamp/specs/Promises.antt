@@ -1,0 +1,42 @@
+-- What the six public calls promise, side by side. Each says what a call answers and what it leaves in what was lent to it. What it cites stands where the call
+-- is made: layouts and fields in `words`, the step in `machine`, the list in `runlist`.
+use Prim.Native.Nat.{ℕ}
+use mathlib.Core.Path.{_≡_}
+use mathlib.Core.List.{List}
+use Rattle.settings.specs.declared.Settings.{Settings}
+use Rattle.words.specs.Decode.{decodedSays, decodePaper}
+use Rattle.words.specs.Partner as words
+use Rattle.words.specs.declared.Fields.{Fields}
+use Rattle.words.specs.declared.Decoded.{Decoded}
+use Rattle.words.specs.declared.Partnered.{Partnered}
+use Rattle.encoding.specs.Encode.{encodedSays, Encodes}
+use Rattle.encoding.specs.declared.Encoded.{Encoded}
+use Rattle.machine.specs.Execute as machine
+use Rattle.machine.specs.declared.Executed.{Executed}
+use Rattle.rate.specs.Rate.{percentOf}
+use Rattle.runlist.specs.RunList as runlist
+use Rattle.runlist.specs.declared.RunAnswer.{RunAnswer}
+
+-- the fields of a word. "Decode tests 1, 3"
+abbrev pub DecodePromise : Settings → ℕ → Decoded → Type 0
+DecodePromise settings word r = decodedSays r ≡ decodePaper settings word
+
+-- the word that has exactly these fields. "encode 1, 5, 3"
+abbrev pub EncodePromise : Settings → Fields → Encoded → Type 0
+EncodePromise settings fields r = Encodes settings fields (encodedSays r)
+
+-- "The partner of a word is the word with S flipped." "partner 1, 3, 6"
+abbrev pub PartnerPromise : Settings → ℕ → Partnered → Type 0
+PartnerPromise = words.PartnerPromise
+
+-- what a step does to Z and ZA, the bits that toggled and those that were written. "execute 1, 2, 3, 4"
+abbrev pub ExecutePromise : Settings → ℕ → List ℕ → List ℕ → Executed → List ℕ → List ℕ → Type 0
+ExecutePromise = machine.ExecutePromise
+
+-- "Percent is 100·toggled/written rounded down, 0 where written is 0."
+abbrev pub PercentPromise : ℕ → ℕ → ℕ → Type 0
+PercentPromise toggled written r = r ≡ percentOf toggled written
+
+-- "An accepted list leaves the final Z and ZA, and three numbers for each word (refusal or 0, toggled, written) in the report, whose rest stays."
+abbrev pub RunPromise : List ℕ → List ℕ → List ℕ → List ℕ → RunAnswer → List ℕ → List ℕ → List ℕ → Type 0
+RunPromise = runlist.RunPromise
