@@ -1,5 +1,13 @@
-// The C interface: numbers and arrays, as include/callinglamp.h has them. Nothing here decodes, encodes or executes; it packs and unpacks what the public calls take
-// and answer.
+// The C interface: the public calls over numbers and arrays, as include/callinglamp.h declares them. It only unpacks what they take and packs what they answer.
+ghost use mathlib.Core.Path.{_≡_};
+ghost use Prim.Native.Nat.{_<_, _^_};
+ghost use mathlib.Core.Bool.{cond};
+ghost use Rattle.settings.specs.Valid.{validSettings};
+ghost use Rattle.settings.specs.Refused.{refusalNumber};
+ghost use Rattle.words.specs.Decode.{decodedSays};
+ghost use Rattle.words.specs.Partner.{partneredSays};
+ghost use Rattle.encoding.specs.Encode.{encodedSays};
+ghost use Rattle.host.specs.Host.{answerOf, halves, familyNumber, boolNumber, fieldNumbers, familyOf, areFields, fieldsWith, fieldsOf as fieldsPaper, decodedInto, ExecutedPut, Fits, RanPut, HostDecode, HostEncode, HostPartner, HostExecute, HostPercent, HostRun};
 use callinglamp::Decoded;
 use callinglamp::Encoded;
 use callinglamp::Executed;
@@ -8,27 +16,30 @@ use callinglamp::Fields;
 use callinglamp::Partnered;
 use callinglamp::Refusal;
 use callinglamp::RunAnswer;
+use callinglamp::Settings;
 
-enum FamilyOf {
-    Is(Family),
-    Nothing,
-}
-
+// The fields that twelve numbers stand for.
 enum FieldsOf {
     Are(Fields),
     Nothing,
 }
 
-// The refusal number in the low half, and what the call gives beside it in the high half.
-fn answer_of(refusal: u32, value: u32) -> u64 {
-    refusal as u64 + value as u64 * 4294967296
+// The refusal number in the low half, and in the high half what the call gives beside it.
+fn answer_of(refusal: u32, value: u32) -> u64
+    ensures { λ r. ⌜ halves r ≡ (refusal, value) ⌝ }
+{
+    value as u64 * 4294967296 + refusal as u64
 }
 
-fn refused(refusal: Refusal) -> u64 {
+fn refused(refusal: Refusal) -> u64
+    ensures { λ r. ⌜ halves r ≡ (refusalNumber refusal, 0) ⌝ }
+{
     answer_of(settings::refusal_number(refusal), 0)
 }
 
-fn family_number(family: Family) -> u32 {
+fn family_number(family: Family) -> u32
+    ensures { λ r. ⌜ r ≡ familyNumber family ⌝ }
+{
     match family {
         Family::ByElement => 1,
         Family::Vector => 2,
@@ -38,76 +49,83 @@ fn family_number(family: Family) -> u32 {
     }
 }
 
-fn family_of(number: u32) -> FamilyOf {
-    if number == 1 {
-        return FamilyOf::Is(Family::ByElement);
+// The family of a number from 1 to 5.
+fn family_of(number: u32) -> Family
+    ensures { λ r. ⌜ r ≡ familyOf number ⌝ }
+{
+    match number {
+        1 => Family::ByElement,
+        2 => Family::Vector,
+        3 => Family::Saturating,
+        4 => Family::LongLong,
+        _ => Family::Long,
     }
-    if number == 2 {
-        return FamilyOf::Is(Family::Vector);
-    }
-    if number == 3 {
-        return FamilyOf::Is(Family::Saturating);
-    }
-    if number == 4 {
-        return FamilyOf::Is(Family::LongLong);
-    }
-    if number == 5 {
-        return FamilyOf::Is(Family::Long);
-    }
-    FamilyOf::Nothing
 }
 
-fn bit(b: bool) -> u32 {
+fn bool_number(b: bool) -> u32
+    ensures { λ r. ⌜ r ≡ boolNumber b ⌝ }
+{
     if b { 1 } else { 0 }
 }
 
-fn put_fields(f: Fields, numbers: &mut [u32; 12]) {
+fn put_fields(f: Fields, numbers: &mut [u32; 12])
+    ensures { λ _. ⌜ now (numbers .exit) ≡ fieldNumbers f ⌝ }
+{
     let family = f.family;
-    numbers[0] = family_number(family);
-    numbers[1] = bit(f.unsigned);
-    numbers[2] = bit(f.subtract);
-    numbers[3] = f.lane;
-    numbers[4] = f.part;
-    numbers[5] = f.index;
-    numbers[6] = f.destination;
-    numbers[7] = f.first;
-    numbers[8] = f.second;
-    numbers[9] = f.group;
-    numbers[10] = f.select;
-    numbers[11] = f.offset;
+    *numbers = [
+        family_number(family),
+        bool_number(f.unsigned),
+        bool_number(f.subtract),
+        f.lane,
+        f.part,
+        f.index,
+        f.destination,
+        f.first,
+        f.second,
+        f.group,
+        f.select,
+        f.offset,
+    ];
 }
 
-// The fields that twelve numbers say: nothing where the family is not 1 to 5, or unsigned or subtract is above 1.
-fn fields_of(numbers: &[u32; 12]) -> FieldsOf {
-    if (numbers[1] > 1) | (numbers[2] > 1) {
+fn are_fields(numbers: &[u32; 12]) -> bool
+    ensures { λ r. ⌜ r ≡ areFields (now (numbers .entry)) ⌝ }
+{
+    (1 <= numbers[0]) & (numbers[0] <= 5) & (numbers[1] <= 1) & (numbers[2] <= 1)
+}
+
+fn fields_with(family: Family, numbers: &[u32; 12]) -> Fields
+    ensures { λ r. ⌜ r ≡ fieldsWith family (now (numbers .entry)) ⌝ }
+{
+    Fields {
+        family: family,
+        unsigned: numbers[1] == 1,
+        subtract: numbers[2] == 1,
+        lane: numbers[3],
+        part: numbers[4],
+        index: numbers[5],
+        destination: numbers[6],
+        first: numbers[7],
+        second: numbers[8],
+        group: numbers[9],
+        select: numbers[10],
+        offset: numbers[11],
+    }
+}
+
+fn fields_of(numbers: &[u32; 12]) -> FieldsOf
+    ensures { λ r. ⌜ r ≡ fieldsPaper (now (numbers .entry)) ⌝ }
+{
+    if !are_fields(numbers) {
         return FieldsOf::Nothing;
     }
-    match family_of(numbers[0]) {
-        FamilyOf::Nothing => FieldsOf::Nothing,
-        FamilyOf::Is(family) => FieldsOf::Are(Fields {
-            family: family,
-            unsigned: numbers[1] == 1,
-            subtract: numbers[2] == 1,
-            lane: numbers[3],
-            part: numbers[4],
-            index: numbers[5],
-            destination: numbers[6],
-            first: numbers[7],
-            second: numbers[8],
-            group: numbers[9],
-            select: numbers[10],
-            offset: numbers[11],
-        }),
-    }
+    FieldsOf::Are(fields_with(family_of(numbers[0]), numbers))
 }
 
-#[no_mangle]
-pub extern "C" fn callinglamp_decode(
-    settings: &[u32; 7],
-    word: u32,
-    fields: &mut [u32; 12],
-) -> u64 {
-    match callinglamp::decode(runlist::settings_of(settings), word) {
+fn decoded(answer: Decoded, fields: &mut [u32; 12]) -> u64
+    ensures { λ r. ⌜ (halves r, now (fields .exit)) ≡ decodedInto (decodedSays answer) (now (fields .entry)) ⌝ }
+{
+    match answer {
         Decoded::Refused(refusal) => refused(refusal),
         Decoded::Word(found) => {
             put_fields(found, fields);
@@ -116,27 +134,88 @@ pub extern "C" fn callinglamp_decode(
     }
 }
 
-#[no_mangle]
-pub extern "C" fn callinglamp_encode(settings: &[u32; 7], fields: &[u32; 12]) -> u64 {
-    let given = runlist::settings_of(settings);
-    if !given.valid() {
-        return refused(Refusal::BadSettings);
+fn encoded(answer: Encoded) -> u64
+    ensures { λ r. ⌜ halves r ≡ encodedSays answer ⌝ }
+{
+    match answer {
+        Encoded::Refused(refusal) => refused(refusal),
+        Encoded::Word(word) => answer_of(0, word),
     }
-    match fields_of(fields) {
-        FieldsOf::Nothing => refused(Refusal::NoSuchWord),
-        FieldsOf::Are(asked) => match callinglamp::encode(given, asked) {
-            Encoded::Refused(refusal) => refused(refusal),
-            Encoded::Word(word) => answer_of(0, word),
-        },
+}
+
+fn partnered(answer: Partnered) -> u64
+    ensures { λ r. ⌜ halves r ≡ partneredSays answer ⌝ }
+{
+    match answer {
+        Partnered::Refused(refusal) => refused(refusal),
+        Partnered::Word(word) => answer_of(0, word),
+    }
+}
+
+// 5 after 1: no word has numbers that are no fields.
+fn no_fields(settings: Settings) -> u64
+    ensures { λ r. ⌜ halves r ≡ cond (validSettings settings) (5, 0) (1, 0) ⌝ }
+{
+    if settings.valid() {
+        return refused(Refusal::NoSuchWord);
+    }
+    refused(Refusal::BadSettings)
+}
+
+fn executed(answer: Executed, counts: &mut [u32; 2]) -> u64
+    ensures { λ r. ⌜ ExecutedPut answer (now (counts .entry)) r (now (counts .exit)) ⌝ }
+{
+    match answer {
+        Executed::Refused(refusal) => refused(refusal),
+        Executed::Done(done) => {
+            *counts = [done.toggled, done.written];
+            0
+        }
+    }
+}
+
+fn ran(answer: RunAnswer, totals: &mut [u32; 3]) -> u64
+    requires { ⌜ Fits answer ⌝ }
+    ensures { λ r. ⌜ RanPut answer (now (totals .entry)) r (now (totals .exit)) ⌝ }
+{
+    match answer {
+        RunAnswer::Refused { refusal, place } => answer_of(
+            settings::refusal_number(refusal),
+            place as u32,
+        ),
+        RunAnswer::Ran { words, tally } => {
+            *totals = [words as u32, tally.toggled, tally.written];
+            0
+        }
     }
 }
 
 #[no_mangle]
-pub extern "C" fn callinglamp_partner(settings: &[u32; 7], word: u32) -> u64 {
-    match callinglamp::partner(runlist::settings_of(settings), word) {
-        Partnered::Refused(refusal) => refused(refusal),
-        Partnered::Word(partner) => answer_of(0, partner),
+pub extern "C" fn callinglamp_decode(settings: &[u32; 7], word: u32, fields: &mut [u32; 12]) -> u64
+    ensures { λ r. ⌜ HostDecode (now (settings .entry)) word (now (fields .entry)) r (now (fields .exit)) ⌝ }
+{
+    decoded(
+        callinglamp::decode(runlist::settings_of(settings), word),
+        fields,
+    )
+}
+
+#[no_mangle]
+pub extern "C" fn callinglamp_encode(settings: &[u32; 7], fields: &[u32; 12]) -> u64
+    ensures { λ r. ⌜ HostEncode (now (settings .entry)) (now (fields .entry)) r ⌝ }
+{
+    let given = runlist::settings_of(settings);
+    match fields_of(fields) {
+        FieldsOf::Are(asked) => encoded(callinglamp::encode(given, asked)),
+        FieldsOf::Nothing => no_fields(given),
     }
+}
+
+#[no_mangle]
+pub extern "C" fn callinglamp_partner(settings: &[u32; 7], word: u32) -> u64
+    ensures { λ r. ⌜ HostPartner (now (settings .entry)) word r ⌝ }
+{
+    partnered(callinglamp::partner(runlist::settings_of(settings), word))
 }
 
 #[no_mangle]
@@ -146,19 +225,19 @@ pub extern "C" fn callinglamp_execute(
     z: &mut [u8],
     za: &mut [u8],
     counts: &mut [u32; 2],
-) -> u64 {
-    match callinglamp::execute(runlist::settings_of(settings), word, z, za) {
-        Executed::Refused(refusal) => refused(refusal),
-        Executed::Done(done) => {
-            counts[0] = done.toggled;
-            counts[1] = done.written;
-            0
-        }
-    }
+) -> u64
+    ensures { λ r. ⌜ HostExecute (now (settings .entry)) word (now (z .entry)) (now (za .entry)) (now (counts .entry)) r (now (z .exit)) (now (za .exit)) (now (counts .exit)) ⌝ }
+{
+    executed(
+        callinglamp::execute(runlist::settings_of(settings), word, z, za),
+        counts,
+    )
 }
 
 #[no_mangle]
-pub extern "C" fn callinglamp_percent(toggled: u32, written: u32) -> u64 {
+pub extern "C" fn callinglamp_percent(toggled: u32, written: u32) -> u64
+    ensures { λ r. ⌜ HostPercent toggled written r ⌝ }
+{
     callinglamp::percent(toggled, written)
 }
 
@@ -169,17 +248,8 @@ pub extern "C" fn callinglamp_run(
     za: &mut [u8],
     report: &mut [u32],
     totals: &mut [u32; 3],
-) -> u64 {
-    match callinglamp::run(list, z, za, report) {
-        RunAnswer::Refused { refusal, place } => answer_of(
-            settings::refusal_number(refusal),
-            (place % 4294967296) as u32,
-        ),
-        RunAnswer::Ran { words, tally } => {
-            totals[0] = (words % 4294967296) as u32;
-            totals[1] = tally.toggled;
-            totals[2] = tally.written;
-            0
-        }
-    }
+) -> u64
+    ensures { λ r. ⌜ HostRun (now (list .entry)) (now (z .entry)) (now (za .entry)) (now (report .entry)) (now (totals .entry)) r (now (z .exit)) (now (za .exit)) (now (report .exit)) (now (totals .exit)) ⌝ }
+{
+    ran(callinglamp::run(list, z, za, report), totals)
 }

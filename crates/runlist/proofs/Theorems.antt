@@ -1,11 +1,12 @@
 -- The statements of specs/Theorems.antt, proved. Assumes nothing.
 use Prim.Native.Nat.{ℕ, _+_, _≤_, _<_}
 use native.Mathlib.Omega.{arith}
+use native.Mathlib.Nat.{min-le-left}
 use native.Mathlib.Decide.{decLe}
 use mathlib.Core.Path.{_≡_, refl, sym, ap, _∙_, subst}
 use mathlib.Core.Logic.{_≢_}
 use mathlib.Core.List.{List, [], _∷_, _++_}
-use lib.ListN.{length, take, drop, length-append, length-drop, take-append-drop}
+use lib.ListN.{length, take, drop, length-append, length-take, length-drop, take-append-drop}
 use lib.Seq.{length-take-le, take-all}
 use borrow.Author.Tests.{ne-eqb}
 use Rattle.settings.specs.declared.Refusal.{Refusal}
@@ -13,9 +14,9 @@ use Rattle.settings.specs.declared.Refusal.the-variants.{ExtraBytes}
 use Rattle.settings.specs.declared.Settings.{Settings}
 use Rattle.numbers.proofs.Places.{number-kept}
 use Rattle.numbers.proofs.Rows.{row-kept}
-use Rattle.runlist.specs.Plan.{Found, found, refused, Asked, endedAt, wordsFrom, asking, settledFrom, headed, planOf}
+use Rattle.runlist.specs.Plan.{Found, found, refused, Asked, mostWords, endedAt, wordsFrom, asking, settledFrom, headed, planOf}
 use Rattle.runlist.specs.RunList.{carriedOut, runPaper}
-use Rattle.runlist.specs.Theorems.{longest, AtMostLongest, OnlyWhole, FirstBytesDecide, EnoughBytes, RunOfEnough, LengthsHold, PlaceInside, OfList, RefusedWith}
+use Rattle.runlist.specs.Theorems.{longest, AtMostLongest, OnlyWhole, FirstBytesDecide, EnoughBytes, RunOfEnough, LengthsHold, RefusedKeeps, PlaceInside, PlaceNear, RunSmall, OfList, RefusedWith}
 use Rattle.runlist.proofs.Plans.{words-counted, z-read}
 use Rattle.runlist.proofs.Lists.{Worded, Made, made, Refusing, by-cause, far}
 
@@ -87,6 +88,15 @@ lengths-hold list z za room a e =
 
 -- ---- what holds of a refused list
 
+kept : (x : Found Asked) (z za report : List ℕ) → carriedOut x z za report .number ≢ 0
+    → (carriedOut x z za report .z ≡ z) × (carriedOut x z za report .za ≡ za) × (carriedOut x z za report .report ≡ report)
+kept (found a) z za report h = absurd (h refl)
+kept (refused r p) z za report h = (refl, refl, refl)
+
+pub refused-keeps : RefusedKeeps
+unfolding runPaper
+refused-keeps list z za report = kept (planOf list (length z) (length za) (length report)) z za report
+
 -- the place is in the list or at its end, and the refusal is one of a list's
 abbrev Told : ℕ → Refusal → ℕ → Type 0
 Told size r p = (p ≤ size) × OfList r p
@@ -106,6 +116,22 @@ told list z za room =
 
 pub place-inside : PlaceInside
 place-inside list z za room r p e = subst (Refusing (Told (length list))) e (told list z za room) .0
+
+pub place-near : PlaceNear
+place-near list z za room r p e =
+    let k : ℕ = longest + 1 in
+    let inside : p ≤ length (take k list) = place-inside (take k list) z za room r p (enough-bytes k (omega arith) list z za room ∙ e) in
+    omega (arith, inside, length-take k list, min-le-left k (length list))
+
+-- what was found is at most as many words as a list may have, and what was refused has its place near
+small : (list : List ℕ) (z za report : List ℕ) (x : Found Asked) → planOf list (length z) (length za) (length report) ≡ x
+    → (carriedOut x z za report .place ≤ longest + 1) × (carriedOut x z za report .words ≤ mostWords)
+small list z za report (found a) e = (omega arith, lengths-hold list (length z) (length za) (length report) a e .few)
+small list z za report (refused r p) e = (place-near list (length z) (length za) (length report) r p e, omega arith)
+
+pub run-small : RunSmall
+unfolding runPaper
+run-small list z za report = small list z za report (planOf list (length z) (length za) (length report)) refl
 
 pub refused-with : RefusedWith
 refused-with list z za room r p e = subst (Refusing (Told (length list))) e (told list z za room) .1

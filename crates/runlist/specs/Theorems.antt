@@ -89,9 +89,23 @@ LongestReached = (a : Asked) × (planOf (written a) 2048 4096 (3 * mostWords) �
 
 -- ---- what holds of a refused list
 
+-- "every lent buffer keeps its contents"
+abbrev pub RefusedKeeps : Type 0
+RefusedKeeps =
+    (list z za report : List ℕ) → runPaper list z za report .number ≢ 0
+    → (runPaper list z za report .z ≡ z) × (runPaper list z za report .za ≡ za) × (runPaper list z za report .report ≡ report)
+
 -- its place is in the list, or at its end
 abbrev pub PlaceInside : Type 0
 PlaceInside = (list : List ℕ) (z za room : ℕ) (r : Refusal) (p : ℕ) → planOf list z za room ≡ refused r p → p ≤ length list
+
+-- however long the list is, that is within the bytes that decide
+abbrev pub PlaceNear : Type 0
+PlaceNear = (list : List ℕ) (z za room : ℕ) (r : Refusal) (p : ℕ) → planOf list z za room ≡ refused r p → p ≤ longest + 1
+
+-- so both numbers that a run answers are small
+abbrev pub RunSmall : Type 0
+RunSmall = (list z za report : List ℕ) → (runPaper list z za report .place ≤ longest + 1) × (runPaper list z za report .words ≤ mostWords)
 
 -- the refusals of a list, and their places: 1 and 2, and with them the place is 0; 7 to 10
 abbrev pub OfList : Refusal → ℕ → Type 0

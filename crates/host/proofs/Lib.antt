@@ -1,0 +1,4 @@
+pub mod Put
+pub mod Calls
+pub mod Theorems
+pub mod Unique

@@ -1,0 +1,139 @@
+-- The statements of specs/Theorems.antt, proved. Assumes nothing.
+use Prim.Native.Nat.{ℕ, zero, suc, _+_, _^_, _≤_}
+use native.Mathlib.Nat.{div-add-mod'}
+use native.Mathlib.Omega.{arith}
+use mathlib.Core.Path.{_≡_, refl, sym, ap, _∙_}
+use mathlib.Core.Bool.{Bool, true, false}
+use mathlib.Core.List.{List, [], _∷_}
+use lib.Dec.{eqb, leb}
+use lib.ListN.{length, getD, drop, drop-of-length-le}
+use lib.Seq.{drop-cons}
+use borrow.Author.Tests.{ne-eqb, leb-true}
+use Rattle.laws.proofs.Tests.{both, by-cond}
+use Rattle.words.specs.Decode.{decodePaper}
+use Rattle.words.specs.declared.Family.{Family}
+use Rattle.words.specs.declared.Family.the-variants.{ByElement, Vector, Saturating, LongLong, Long}
+use Rattle.words.specs.declared.Fields.{Fields}
+use Rattle.machine.specs.Execute.{executePaper}
+use Rattle.machine.proofs.Theorems as machine
+use Rattle.runlist.specs.Plan.{settingsOf}
+use Rattle.runlist.specs.RunList.{runPaper}
+use Rattle.runlist.proofs.Theorems as runlist
+use Rattle.host.specs.Host.{halves, familyNumber, boolNumber, fieldNumbers, familyOf, areFields, fieldsWith, fieldsOf, hostDecode, HostExecuted, hostExecute, HostRan, hostRun}
+use Rattle.host.specs.Theorems.{HalvesBack, AnswerBack, FieldsBack, NumbersBack, DecodeKeeps, ExecuteKeeps, RunKeeps}
+use Rattle.host.specs.declared.FieldsOf.{FieldsOf}
+use Rattle.host.specs.declared.FieldsOf.the-variants.{Are, Nothing}
+use Rattle.host.proofs.Put.{halves-put}
+
+-- ---- an answer
+
+pub halves-back : HalvesBack
+halves-back = halves-put
+
+pub answer-back : AnswerBack
+answer-back answer = div-add-mod' answer (2 ^ 32)
+
+-- ---- fields and their numbers
+
+-- a family's number is from 1 to 5, and stands for the family
+record FamilyBack (g : Family) : Type 0 where
+  least : leb 1 (familyNumber g) ≡ true
+  most : leb (familyNumber g) 5 ≡ true
+  back : familyOf (familyNumber g) ≡ g
+
+family-back : (g : Family) → FamilyBack g
+family-back ByElement = record { least = refl; most = refl; back = refl }
+family-back Vector = record { least = refl; most = refl; back = refl }
+family-back Saturating = record { least = refl; most = refl; back = refl }
+family-back LongLong = record { least = refl; most = refl; back = refl }
+family-back Long = record { least = refl; most = refl; back = refl }
+
+bool-back : (b : Bool) → (leb (boolNumber b) 1 ≡ true) × (eqb (boolNumber b) 1 ≡ b)
+bool-back true = (refl, refl)
+bool-back false = (refl, refl)
+
+pub fields-back : FieldsBack
+unfolding fieldsOf
+fields-back f =
+    let g = family-back (f .family) in
+    let u = bool-back (f .unsigned) in
+    let s = bool-back (f .subtract) in
+    rw (g .least, g .most, u .0, s .0, g .back, u .1, s .1)
+
+-- a number from 1 to 5 is that of its family, and one up to 1 that of its bool
+number-family : (n : ℕ) → 1 ≤ n → n ≤ 5 → familyNumber (familyOf n) ≡ n
+number-family zero p q = absurd (omega arith)
+number-family (suc zero) p q = refl
+number-family (suc (suc zero)) p q = refl
+number-family (suc (suc (suc zero))) p q = refl
+number-family (suc (suc (suc (suc zero)))) p q = refl
+number-family (suc (suc (suc (suc (suc zero))))) p q = refl
+number-family (suc (suc (suc (suc (suc (suc n)))))) p q = absurd (omega arith)
+
+number-bool : (n : ℕ) → n ≤ 1 → boolNumber (eqb n 1) ≡ n
+number-bool zero p = refl
+number-bool (suc zero) p = refl
+number-bool (suc (suc n)) p = absurd (omega arith)
+
+-- the k elements from `at` on
+elements : ℕ → ℕ → List ℕ → List ℕ
+elements zero at n = []
+elements (suc k) at n = getD n at 0 ∷ elements k (suc at) n
+
+elements-are : (k at : ℕ) (n : List ℕ) → at + k ≡ length n → elements k at n ≡ drop at n
+unfolding elements
+elements-are zero at n e = sym (drop-of-length-le n {i = at} (omega arith))
+elements-are (suc k) at n e =
+    ap (λ (l : List ℕ). getD n at 0 ∷ l) (elements-are k (suc at) n (omega arith)) ∙ sym (drop-cons n at 0 (omega arith))
+
+-- twelve numbers, of which the first three are in range
+numbers-are : (n : List ℕ) → length n ≡ 12 → areFields n ≡ true → fieldNumbers (fieldsWith (familyOf (getD n 0 0)) n) ≡ n
+unfolding elements
+numbers-are n e t =
+    let p = both _ _ t in
+    let q = both _ _ (p .0) in
+    let r = both _ _ (q .0) in
+    rw (number-family (getD n 0 0) (leb-true _ _ (r .0)) (leb-true _ _ (r .1)), number-bool (getD n 1 0) (leb-true _ _ (q .1)), number-bool (getD n 2 0) (leb-true _ _ (p .1)))
+    (elements-are 12 0 n (sym e))
+
+are : FieldsOf → Fields → Fields
+are (Are f) g = f
+are Nothing g = g
+
+pub numbers-back : NumbersBack
+unfolding fieldsOf are
+numbers-back n f e =
+    by-cond (areFields n) (Are (fieldsWith (familyOf (getD n 0 0)) n)) Nothing (Are f)
+    (λ t g. ap fieldNumbers (sym (ap (λ (x : FieldsOf). are x f) g)) ∙ numbers-are n e t)
+    (λ _ g. let z : _≡_ {A = ℕ} 0 1 = cc in absurd (omega arith))
+
+-- ---- a refused call writes nothing
+
+pub decode-keeps : DecodeKeeps
+unfolding hostDecode
+decode-keeps settings word fields r fields′ e h =
+    let number : halves r .0 ≡ decodePaper (settingsOf settings) word .0 = ap (λ (x : (ℕ × ℕ) × List ℕ). x .0 .0) e in
+    ap (λ (x : (ℕ × ℕ) × List ℕ). x .1) e ∙ rw (ne-eqb (decodePaper (settingsOf settings) word .0) 0 (λ z. h (number ∙ z)))
+
+pub execute-keeps : ExecuteKeeps
+unfolding hostExecute
+execute-keeps settings word z za counts r z′ za′ counts′ e h =
+    let o = executePaper (settingsOf settings) word z za in
+    let number : halves r .0 ≡ o .number = ap (λ (x : HostExecuted). x .answer .0) e in
+    let kept = machine.refused-keeps (settingsOf settings) word z za (λ n. h (number ∙ n)) in (
+      ap (λ (x : HostExecuted). x .z) e ∙ kept .0,
+      ap (λ (x : HostExecuted). x .za) e ∙ kept .1,
+      ap (λ (x : HostExecuted). x .counts) e ∙ rw (ne-eqb (o .number) 0 (λ n. h (number ∙ n))),
+    )
+
+pub run-keeps : RunKeeps
+unfolding hostRun
+run-keeps list z za report totals r z′ za′ report′ totals′ e h =
+    let o = runPaper list z za report in
+    let number : halves r .0 ≡ o .number = ap (λ (x : HostRan). x .answer .0) e in
+    let kept = runlist.refused-keeps list z za report (λ n. h (number ∙ n)) in (
+      ap (λ (x : HostRan). x .z) e ∙ kept .0,
+      ap (λ (x : HostRan). x .za) e ∙ kept .1,
+      ap (λ (x : HostRan). x .report) e ∙ kept .2,
+      ap (λ (x : HostRan). x .totals) e ∙ rw (ne-eqb (o .number) 0 (λ n. h (number ∙ n))),
+    )

@@ -1,0 +1,59 @@
+-- Each promise of the C interface determines the answer, and every byte and number of what was lent: any two results that it allows are equal.
+-- Assumes nothing.
+use Prim.Native.Nat.{ℕ}
+use mathlib.Core.Path.{_≡_, sym, ap, ap₂, _∙_}
+use mathlib.Core.List.{List}
+use Rattle.settings.specs.declared.Settings.{Settings}
+use Rattle.encoding.proofs.Theorems.{encodes-unique}
+use Rattle.runlist.specs.Plan.{settingsOf}
+use Rattle.host.specs.Host.{answerOf, halves, fieldsOf, HostDecode, EncodesNumbers, HostEncode, HostPartner, HostExecuted, HostExecute, HostPercent, HostRan, HostRun}
+use Rattle.host.specs.declared.FieldsOf.{FieldsOf}
+use Rattle.host.specs.declared.FieldsOf.the-variants.{Are, Nothing}
+use Rattle.host.proofs.Theorems.{answer-back}
+
+-- an answer is known by its halves
+halves-known : (r q : ℕ) → halves r ≡ halves q → r ≡ q
+halves-known r q e = sym (answer-back r) ∙ ap (λ (h : ℕ × ℕ). answerOf (h .0) (h .1)) e ∙ answer-back q
+
+pub decode-unique : (settings : List ℕ) (word : ℕ) (fields : List ℕ) (r q : ℕ) (fields1 fields2 : List ℕ)
+    → HostDecode settings word fields r fields1 → HostDecode settings word fields q fields2
+    → (r ≡ q) × (fields1 ≡ fields2)
+decode-unique settings word fields r q fields1 fields2 e g =
+    let same = e ∙ sym g in
+    (halves-known r q (ap (λ (x : (ℕ × ℕ) × List ℕ). x .0) same), ap (λ (x : (ℕ × ℕ) × List ℕ). x .1) same)
+
+numbers-encoded : (s : Settings) (f : FieldsOf) (a b : ℕ × ℕ) → EncodesNumbers s f a → EncodesNumbers s f b → a ≡ b
+numbers-encoded s (Are f) a b p q = encodes-unique s f a b p q
+numbers-encoded s Nothing a b p q = p ∙ sym q
+
+pub encode-unique : (settings fields : List ℕ) (r q : ℕ) → HostEncode settings fields r → HostEncode settings fields q → r ≡ q
+encode-unique settings fields r q e g = halves-known r q (numbers-encoded (settingsOf settings) (fieldsOf fields) (halves r) (halves q) e g)
+
+pub partner-unique : (settings : List ℕ) (word r q : ℕ) → HostPartner settings word r → HostPartner settings word q → r ≡ q
+partner-unique settings word r q e g = halves-known r q (e ∙ sym g)
+
+pub execute-unique : (settings : List ℕ) (word : ℕ) (z za counts : List ℕ) (r q : ℕ) (z1 za1 counts1 z2 za2 counts2 : List ℕ)
+    → HostExecute settings word z za counts r z1 za1 counts1 → HostExecute settings word z za counts q z2 za2 counts2
+    → (r ≡ q) × (z1 ≡ z2) × (za1 ≡ za2) × (counts1 ≡ counts2)
+execute-unique settings word z za counts r q z1 za1 counts1 z2 za2 counts2 e g =
+    let same = e ∙ sym g in (
+      halves-known r q (ap (λ (x : HostExecuted). x .answer) same),
+      ap (λ (x : HostExecuted). x .z) same,
+      ap (λ (x : HostExecuted). x .za) same,
+      ap (λ (x : HostExecuted). x .counts) same,
+    )
+
+pub percent-unique : (toggled written r q : ℕ) → HostPercent toggled written r → HostPercent toggled written q → r ≡ q
+percent-unique toggled written r q e g = e ∙ sym g
+
+pub run-unique : (list z za report totals : List ℕ) (r q : ℕ) (z1 za1 report1 totals1 z2 za2 report2 totals2 : List ℕ)
+    → HostRun list z za report totals r z1 za1 report1 totals1 → HostRun list z za report totals q z2 za2 report2 totals2
+    → (r ≡ q) × (z1 ≡ z2) × (za1 ≡ za2) × (report1 ≡ report2) × (totals1 ≡ totals2)
+run-unique list z za report totals r q z1 za1 report1 totals1 z2 za2 report2 totals2 e g =
+    let same = e ∙ sym g in (
+      halves-known r q (ap (λ (x : HostRan). x .answer) same),
+      ap (λ (x : HostRan). x .z) same,
+      ap (λ (x : HostRan). x .za) same,
+      ap (λ (x : HostRan). x .report) same,
+      ap (λ (x : HostRan). x .totals) same,
+    )

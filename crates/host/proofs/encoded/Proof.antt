@@ -1,0 +1,33 @@
+-- `host::encoded` meets its contract. Assumes nothing.
+use borrow.Author.Needs.{needs}
+use Rattle.host.proofs.encoded.Statement.{statement}
+use Rattle.host.proofs.encoded.Tie as tie
+
+enum-known-answer : tie.Need-enum-known-answer
+enum-known-answer c = search needs
+
+refused-requires : tie.Need-refused-requires
+refused-requires c κs = search needs
+
+enum-known-answer-2 : tie.Need-enum-known-answer-2
+enum-known-answer-2 c = search needs
+
+answer-of-requires : tie.Need-answer-of-requires
+answer-of-requires c κs = search needs
+
+returns : tie.Need-returns
+returns c = rw (c .before .before .answer .given .1) (c .refused .ensures)
+
+returns-2 : tie.Need-returns-2
+returns-2 c = rw (c .before .before .answer2 .given .1) (c .answer-of .ensures)
+
+pub encoded-spec : {M : Type 1} → statement M
+encoded-spec =
+    tie.close
+    (tie.spec
+    enum-known-answer
+    refused-requires
+    enum-known-answer-2
+    answer-of-requires
+    returns
+    returns-2)

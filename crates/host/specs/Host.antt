@@ -1,0 +1,178 @@
+-- The C interface, include/callinglamp.h: what each function answers, and what stands afterwards in each array that it was lent. What decode, encode, partner,
+-- execute and run say is what the public calls promise; here it becomes numbers.
+use Prim.Native.Nat.{ℕ, _+_, _*_, _/_, _%_, _^_, _<_}
+use mathlib.Core.Path.{_≡_}
+use mathlib.Core.Bool.{Bool, true, false, _&&_, cond}
+use mathlib.Core.List.{List, [], _∷_}
+use lib.Dec.{eqb, leb}
+use lib.ListN.{getD}
+use Rattle.settings.specs.Valid.{validSettings}
+use Rattle.settings.specs.declared.Settings.{Settings}
+use Rattle.words.specs.Decode.{decodePaper}
+use Rattle.words.specs.Partner.{partnerPaper}
+use Rattle.words.specs.declared.Family.{Family}
+use Rattle.words.specs.declared.Family.the-variants.{ByElement, Vector, Saturating, LongLong, Long}
+use Rattle.words.specs.declared.Fields.{Fields}
+use Rattle.encoding.specs.Encode.{Encodes}
+use Rattle.machine.specs.Execute.{Outcome, executedSays, executePaper}
+use Rattle.machine.specs.declared.Executed.{Executed}
+use Rattle.rate.specs.Rate.{percentOf}
+use Rattle.runlist.specs.Plan.{settingsOf}
+use Rattle.runlist.specs.RunList.{Ended, runSays, runPaper}
+use Rattle.runlist.specs.declared.RunAnswer.{RunAnswer}
+use Rattle.runlist.specs.declared.RunAnswer.the-variants as answer
+use Rattle.host.specs.declared.FieldsOf.{FieldsOf}
+use Rattle.host.specs.declared.FieldsOf.the-variants.{Are, Nothing}
+
+-- ---- an answer is one number of 64 bits
+
+-- the refusal number (0: accepted) in the low half, and in the high half what the call gives beside it
+abbrev pub answerOf : ℕ → ℕ → ℕ
+answerOf refusal value = value * 2 ^ 32 + refusal
+
+-- what is read from it
+abbrev pub halves : ℕ → ℕ × ℕ
+halves answer = (answer % 2 ^ 32, answer / 2 ^ 32)
+
+-- ---- fields are twelve numbers
+
+abbrev pub familyNumber : Family → ℕ
+familyNumber ByElement = 1
+familyNumber Vector = 2
+familyNumber Saturating = 3
+familyNumber LongLong = 4
+familyNumber Long = 5
+
+abbrev pub boolNumber : Bool → ℕ
+boolNumber true = 1
+boolNumber false = 0
+
+abbrev pub fieldNumbers : Fields → List ℕ
+fieldNumbers f =
+    familyNumber (f .family) ∷ boolNumber (f .unsigned) ∷ boolNumber (f .subtract) ∷ f .lane ∷ f .part ∷ f .index
+    ∷ f .destination ∷ f .first ∷ f .second ∷ f .group ∷ f .select ∷ f .offset ∷ []
+
+-- the family of a number from 1 to 5
+abbrev pub familyOf : ℕ → Family
+familyOf n = cond (eqb n 1) ByElement (cond (eqb n 2) Vector (cond (eqb n 3) Saturating (cond (eqb n 4) LongLong Long)))
+
+-- whether there are fields of which these are the numbers
+abbrev pub areFields : List ℕ → Bool
+areFields n = leb 1 (getD n 0 0) && leb (getD n 0 0) 5 && leb (getD n 1 0) 1 && leb (getD n 2 0) 1
+
+abbrev pub fieldsWith : Family → List ℕ → Fields
+fieldsWith family n =
+    record {
+      family = family;
+      unsigned = eqb (getD n 1 0) 1;
+      subtract = eqb (getD n 2 0) 1;
+      lane = getD n 3 0;
+      part = getD n 4 0;
+      index = getD n 5 0;
+      destination = getD n 6 0;
+      first = getD n 7 0;
+      second = getD n 8 0;
+      group = getD n 9 0;
+      select = getD n 10 0;
+      offset = getD n 11 0;
+    }
+
+unfoldable pub fieldsOf : List ℕ → FieldsOf
+fieldsOf n = cond (areFields n) (Are (fieldsWith (familyOf (getD n 0 0)) n)) Nothing
+
+-- ---- decode
+
+-- the numbers of an accepted word's fields; a refused call writes nothing
+abbrev pub decodedInto : ℕ × Fields → List ℕ → (ℕ × ℕ) × List ℕ
+decodedInto d fields = ((d .0, 0), cond (eqb (d .0) 0) (fieldNumbers (d .1)) fields)
+
+unfoldable pub hostDecode : List ℕ → ℕ → List ℕ → (ℕ × ℕ) × List ℕ
+hostDecode settings word fields = decodedInto (decodePaper (settingsOf settings) word) fields
+
+abbrev pub HostDecode : List ℕ → ℕ → List ℕ → ℕ → List ℕ → Type 0
+HostDecode settings word fields r fields′ = (halves r, fields′) ≡ hostDecode settings word fields
+
+-- ---- encode
+
+-- numbers that are no fields: 5 after 1, since no word has them
+abbrev pub EncodesNumbers : Settings → FieldsOf → ℕ × ℕ → Type 0
+EncodesNumbers s (Are f) answer = Encodes s f answer
+EncodesNumbers s Nothing answer = answer ≡ cond (validSettings s) (5, 0) (1, 0)
+
+abbrev pub HostEncode : List ℕ → List ℕ → ℕ → Type 0
+HostEncode settings fields r = EncodesNumbers (settingsOf settings) (fieldsOf fields) (halves r)
+
+-- ---- partner
+
+abbrev pub HostPartner : List ℕ → ℕ → ℕ → Type 0
+HostPartner settings word r = halves r ≡ partnerPaper (settingsOf settings) word
+
+-- ---- execute
+
+pub record HostExecuted : Type 0 where
+  pub answer : ℕ × ℕ
+  pub z : List ℕ
+  pub za : List ℕ
+  pub counts : List ℕ
+
+abbrev pub executedInto : Outcome → List ℕ → HostExecuted
+executedInto o counts =
+    record { answer = (o .number, 0); z = o .z; za = o .za; counts = cond (eqb (o .number) 0) (o .toggled ∷ o .written ∷ []) counts }
+
+unfoldable pub hostExecute : List ℕ → ℕ → List ℕ → List ℕ → List ℕ → HostExecuted
+hostExecute settings word z za counts = executedInto (executePaper (settingsOf settings) word z za) counts
+
+abbrev pub HostExecute : List ℕ → ℕ → List ℕ → List ℕ → List ℕ → ℕ → List ℕ → List ℕ → List ℕ → Type 0
+HostExecute settings word z za counts r z′ za′ counts′ =
+    record { answer = halves r; z = z′; za = za′; counts = counts′ } ≡ hostExecute settings word z za counts
+
+-- ---- percent
+
+-- its answer is the percent, in 64 bits
+abbrev pub HostPercent : ℕ → ℕ → ℕ → Type 0
+HostPercent toggled written r = r ≡ percentOf toggled written
+
+-- ---- run
+
+pub record HostRan : Type 0 where
+  pub answer : ℕ × ℕ
+  pub z : List ℕ
+  pub za : List ℕ
+  pub report : List ℕ
+  pub totals : List ℕ
+
+-- the place of a refused list stands beside its number
+abbrev pub ranInto : Ended → List ℕ → HostRan
+ranInto e totals =
+    record {
+      answer = (e .number, e .place);
+      z = e .z;
+      za = e .za;
+      report = e .report;
+      totals = cond (eqb (e .number) 0) (e .words ∷ e .tally .toggled ∷ e .tally .written ∷ []) totals;
+    }
+
+unfoldable pub hostRun : List ℕ → List ℕ → List ℕ → List ℕ → List ℕ → HostRan
+hostRun list z za report totals = ranInto (runPaper list z za report) totals
+
+abbrev pub HostRun : List ℕ → List ℕ → List ℕ → List ℕ → List ℕ → ℕ → List ℕ → List ℕ → List ℕ → List ℕ → Type 0
+HostRun list z za report totals r z′ za′ report′ totals′ =
+    record { answer = halves r; z = z′; za = za′; report = report′; totals = totals′ } ≡ hostRun list z za report totals
+
+-- ---- only contracts use these
+
+-- what is put down of an answer, whatever Z and ZA are
+abbrev pub ExecutedPut : Executed → List ℕ → ℕ → List ℕ → Type 0
+ExecutedPut answer counts r counts′ =
+    (z za : List ℕ) → record { answer = halves r; z = z; za = za; counts = counts′ } ≡ executedInto (executedSays answer z za) counts
+
+-- and whatever Z, ZA and the report are
+abbrev pub RanPut : RunAnswer → List ℕ → ℕ → List ℕ → Type 0
+RanPut answer totals r totals′ =
+    (z za report : List ℕ)
+    → record { answer = halves r; z = z; za = za; report = report; totals = totals′ } ≡ ranInto (runSays answer z za report) totals
+
+-- the count of words and the place have 32 bits
+abbrev pub Fits : RunAnswer → Type 0
+Fits (answer.Ran n t) = n < 2 ^ 32
+Fits (answer.Refused r p) = p < 2 ^ 32

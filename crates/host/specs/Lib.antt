@@ -1,0 +1,3 @@
+pub mod Host
+pub mod Theorems
+pub mod Examples
