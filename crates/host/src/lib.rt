@@ -18,6 +18,9 @@ use callinglamp::Refusal;
 use callinglamp::RunAnswer;
 use callinglamp::Settings;
 
+// What 1 in the high half of an answer counts.
+const HIGH_HALF: u64 = 4294967296;
+
 // The fields that twelve numbers stand for.
 enum FieldsOf {
     Are(Fields),
@@ -28,7 +31,7 @@ enum FieldsOf {
 fn answer_of(refusal: u32, value: u32) -> u64
     ensures { λ r. ⌜ halves r ≡ (refusal, value) ⌝ }
 {
-    value as u64 * 4294967296 + refusal as u64
+    value as u64 * HIGH_HALF + refusal as u64
 }
 
 fn refused(refusal: Refusal) -> u64
@@ -122,6 +125,7 @@ fn fields_of(numbers: &[u32; 12]) -> FieldsOf
     FieldsOf::Are(fields_with(family_of(numbers[0]), numbers))
 }
 
+// An answer, as numbers: a word's fields go into `fields`.
 fn decoded(answer: Decoded, fields: &mut [u32; 12]) -> u64
     ensures { λ r. ⌜ (halves r, now (fields .exit)) ≡ decodedInto (decodedSays answer) (now (fields .entry)) ⌝ }
 {
@@ -134,21 +138,23 @@ fn decoded(answer: Decoded, fields: &mut [u32; 12]) -> u64
     }
 }
 
+// The fields of a word, in `fields`. Refusals 1, 3.
+#[no_mangle]
+pub extern "C" fn callinglamp_decode(settings: &[u32; 7], word: u32, fields: &mut [u32; 12]) -> u64
+    ensures { λ r. ⌜ HostDecode (now (settings .entry)) word (now (fields .entry)) r (now (fields .exit)) ⌝ }
+{
+    decoded(
+        callinglamp::decode(runlist::settings_of(settings), word),
+        fields,
+    )
+}
+
 fn encoded(answer: Encoded) -> u64
     ensures { λ r. ⌜ halves r ≡ encodedSays answer ⌝ }
 {
     match answer {
         Encoded::Refused(refusal) => refused(refusal),
         Encoded::Word(word) => answer_of(0, word),
-    }
-}
-
-fn partnered(answer: Partnered) -> u64
-    ensures { λ r. ⌜ halves r ≡ partneredSays answer ⌝ }
-{
-    match answer {
-        Partnered::Refused(refusal) => refused(refusal),
-        Partnered::Word(word) => answer_of(0, word),
     }
 }
 
@@ -162,6 +168,35 @@ fn no_fields(settings: Settings) -> u64
     refused(Refusal::BadSettings)
 }
 
+// The word that has exactly these fields. Refusals 1, 5, 3.
+#[no_mangle]
+pub extern "C" fn callinglamp_encode(settings: &[u32; 7], fields: &[u32; 12]) -> u64
+    ensures { λ r. ⌜ HostEncode (now (settings .entry)) (now (fields .entry)) r ⌝ }
+{
+    let given = runlist::settings_of(settings);
+    match fields_of(fields) {
+        FieldsOf::Are(asked) => encoded(callinglamp::encode(given, asked)),
+        FieldsOf::Nothing => no_fields(given),
+    }
+}
+
+fn partnered(answer: Partnered) -> u64
+    ensures { λ r. ⌜ halves r ≡ partneredSays answer ⌝ }
+{
+    match answer {
+        Partnered::Refused(refusal) => refused(refusal),
+        Partnered::Word(word) => answer_of(0, word),
+    }
+}
+
+// The word with S flipped. Refusals 1, 3, 6.
+#[no_mangle]
+pub extern "C" fn callinglamp_partner(settings: &[u32; 7], word: u32) -> u64
+    ensures { λ r. ⌜ HostPartner (now (settings .entry)) word r ⌝ }
+{
+    partnered(callinglamp::partner(runlist::settings_of(settings), word))
+}
+
 fn executed(answer: Executed, counts: &mut [u32; 2]) -> u64
     ensures { λ r. ⌜ ExecutedPut answer (now (counts .entry)) r (now (counts .exit)) ⌝ }
 {
@@ -172,6 +207,31 @@ fn executed(answer: Executed, counts: &mut [u32; 2]) -> u64
             0
         }
     }
+}
+
+// Executes one word on Z and ZA; `counts` takes toggled and written. Refusals 1, 2, 3, 4.
+#[no_mangle]
+pub extern "C" fn callinglamp_execute(
+    settings: &[u32; 7],
+    word: u32,
+    z: &mut [u8],
+    za: &mut [u8],
+    counts: &mut [u32; 2],
+) -> u64
+    ensures { λ r. ⌜ HostExecute (now (settings .entry)) word (now (z .entry)) (now (za .entry)) (now (counts .entry)) r (now (z .exit)) (now (za .exit)) (now (counts .exit)) ⌝ }
+{
+    executed(
+        callinglamp::execute(runlist::settings_of(settings), word, z, za),
+        counts,
+    )
+}
+
+// What share of the bits that were written toggled, in hundredths: its 64 bits are that number.
+#[no_mangle]
+pub extern "C" fn callinglamp_percent(toggled: u32, written: u32) -> u64
+    ensures { λ r. ⌜ HostPercent toggled written r ⌝ }
+{
+    callinglamp::percent(toggled, written)
 }
 
 fn ran(answer: RunAnswer, totals: &mut [u32; 3]) -> u64
@@ -190,57 +250,8 @@ fn ran(answer: RunAnswer, totals: &mut [u32; 3]) -> u64
     }
 }
 
-#[no_mangle]
-pub extern "C" fn callinglamp_decode(settings: &[u32; 7], word: u32, fields: &mut [u32; 12]) -> u64
-    ensures { λ r. ⌜ HostDecode (now (settings .entry)) word (now (fields .entry)) r (now (fields .exit)) ⌝ }
-{
-    decoded(
-        callinglamp::decode(runlist::settings_of(settings), word),
-        fields,
-    )
-}
-
-#[no_mangle]
-pub extern "C" fn callinglamp_encode(settings: &[u32; 7], fields: &[u32; 12]) -> u64
-    ensures { λ r. ⌜ HostEncode (now (settings .entry)) (now (fields .entry)) r ⌝ }
-{
-    let given = runlist::settings_of(settings);
-    match fields_of(fields) {
-        FieldsOf::Are(asked) => encoded(callinglamp::encode(given, asked)),
-        FieldsOf::Nothing => no_fields(given),
-    }
-}
-
-#[no_mangle]
-pub extern "C" fn callinglamp_partner(settings: &[u32; 7], word: u32) -> u64
-    ensures { λ r. ⌜ HostPartner (now (settings .entry)) word r ⌝ }
-{
-    partnered(callinglamp::partner(runlist::settings_of(settings), word))
-}
-
-#[no_mangle]
-pub extern "C" fn callinglamp_execute(
-    settings: &[u32; 7],
-    word: u32,
-    z: &mut [u8],
-    za: &mut [u8],
-    counts: &mut [u32; 2],
-) -> u64
-    ensures { λ r. ⌜ HostExecute (now (settings .entry)) word (now (z .entry)) (now (za .entry)) (now (counts .entry)) r (now (z .exit)) (now (za .exit)) (now (counts .exit)) ⌝ }
-{
-    executed(
-        callinglamp::execute(runlist::settings_of(settings), word, z, za),
-        counts,
-    )
-}
-
-#[no_mangle]
-pub extern "C" fn callinglamp_percent(toggled: u32, written: u32) -> u64
-    ensures { λ r. ⌜ HostPercent toggled written r ⌝ }
-{
-    callinglamp::percent(toggled, written)
-}
-
+// Runs a list on Z and ZA, and reports three numbers for each word; `totals` takes the count of words and their tally. Refusals 1, 2, 7 to 10, with the place
+// beside the number.
 #[no_mangle]
 pub extern "C" fn callinglamp_run(
     list: &[u8],

@@ -6,10 +6,10 @@ ghost use Rattle.lines.specs.Lines.{Wrote};
 ghost use Rattle.runlist.specs.Plan.{mostWords};
 ghost use Rattle.runlist.specs.Theorems.{longest};
 ghost use Rattle.lamp.specs.Lamp.{linesOf, registerOf, registerBytes, printed, WordsAgain};
+use callinglamp::RunAnswer;
 use libc::STDIN_FILENO;
 use libc::STDOUT_FILENO;
 use numbers::Read;
-use runlist::RunAnswer;
 
 // How much of the input is kept.
 const INPUT: usize = 8192;
@@ -70,7 +70,7 @@ fn put_answer(
     ensures { λ r. ⌜ Wrote (linesOf (now (list .entry)) (now (z .entry)) (now (za .entry)) (now (report .entry))) 0 (now (out .entry)) (now (out .exit)) r ⌝ }
     ensures { λ r. ⌜ (r ≤ length (now (out .exit))) × (r ≡ length (take r (now (out .exit)))) ⌝ }
 {
-    match runlist::run(list, z, za, report) {
+    match callinglamp::run(list, z, za, report) {
         RunAnswer::Refused { refusal, place } => lines::put_refused(
             out,
             settings::refusal_number(refusal),
