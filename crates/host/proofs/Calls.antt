@@ -1,16 +1,15 @@
 -- From what a public call promises, and what is put down of its answer, to what the C function promises. Assumes nothing.
-use Prim.Native.Nat.{ℕ, _^_, _<_}
+use Prim.Native.Nat.{ℕ}
 use native.Mathlib.Omega.{arith}
-use mathlib.Core.Path.{_≡_, sym, ap, _∙_, subst}
+use mathlib.Core.Path.{_≡_, ap, _∙_}
 use mathlib.Core.List.{List}
-use Rattle.settings.specs.Valid.{validSettings}
 use Rattle.settings.specs.declared.Settings.{Settings}
 use Rattle.words.specs.Decode.{decodedSays}
 use Rattle.words.specs.Partner.{partneredSays}
 use Rattle.words.specs.declared.Fields.{Fields}
 use Rattle.words.specs.declared.Decoded.{Decoded}
 use Rattle.words.specs.declared.Partnered.{Partnered}
-use Rattle.encoding.specs.Encode.{Encodes, encodedSays}
+use Rattle.encoding.specs.Encode.{encodedSays}
 use Rattle.encoding.specs.declared.Encoded.{Encoded}
 use Rattle.machine.specs.Execute.{Outcome}
 use Rattle.machine.specs.declared.Executed.{Executed}
@@ -21,7 +20,6 @@ use Rattle.runlist.specs.declared.RunAnswer.the-variants as answer
 use Rattle.runlist.proofs.Theorems.{run-small}
 use Rattle.callinglamp.specs.Promises.{DecodePromise, EncodePromise, PartnerPromise, ExecutePromise, RunPromise}
 use Rattle.host.specs.Host.{halves, fieldsOf, decodedInto, hostDecode, HostDecode, EncodesNumbers, HostEncode, HostPartner, executedInto, hostExecute, HostExecute, ranInto, hostRun, HostRun, ExecutedPut, RanPut, Fits}
-use Rattle.host.specs.declared.FieldsOf.{FieldsOf}
 use Rattle.host.specs.declared.FieldsOf.the-variants.{Are, Nothing}
 
 module _ (settings : List ℕ) (s : Settings) (e : s ≡ settingsOf settings) where

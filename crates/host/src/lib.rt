@@ -1,13 +1,12 @@
 // The C interface: the public calls over numbers and arrays, as include/callinglamp.h declares them. It only unpacks what they take and packs what they answer.
 ghost use mathlib.Core.Path.{_≡_};
-ghost use Prim.Native.Nat.{_<_, _^_};
 ghost use mathlib.Core.Bool.{cond};
 ghost use Rattle.settings.specs.Valid.{validSettings};
 ghost use Rattle.settings.specs.Refused.{refusalNumber};
 ghost use Rattle.words.specs.Decode.{decodedSays};
 ghost use Rattle.words.specs.Partner.{partneredSays};
 ghost use Rattle.encoding.specs.Encode.{encodedSays};
-ghost use Rattle.host.specs.Host.{answerOf, halves, familyNumber, boolNumber, fieldNumbers, familyOf, areFields, fieldsWith, fieldsOf as fieldsPaper, decodedInto, ExecutedPut, Fits, RanPut, HostDecode, HostEncode, HostPartner, HostExecute, HostPercent, HostRun};
+ghost use Rattle.host.specs.Host.{halves, familyNumber, boolNumber, fieldNumbers, familyOf, areFields, fieldsWith, fieldsOf as fieldsPaper, decodedInto, ExecutedPut, Fits, RanPut, HostDecode, HostEncode, HostPartner, HostExecute, HostPercent, HostRun};
 use callinglamp::Decoded;
 use callinglamp::Encoded;
 use callinglamp::Executed;

@@ -1,6 +1,6 @@
 -- `host::callinglamp_decode` meets its contract. Assumes nothing.
-use Rattle.host.proofs.Calls.{decode-said}
 use borrow.Author.Needs.{needs}
+use Rattle.host.proofs.Calls.{decode-said}
 use Rattle.host.proofs.callinglamp_decode.Statement.{statement}
 use Rattle.host.proofs.callinglamp_decode.Tie as tie
 

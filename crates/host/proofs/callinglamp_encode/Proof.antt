@@ -1,7 +1,7 @@
 -- `host::callinglamp_encode` meets its contract. Assumes nothing.
 use mathlib.Core.Path.{sym, _∙_}
-use Rattle.host.proofs.Calls.{encode-said, encode-nothing}
 use borrow.Author.Needs.{needs}
+use Rattle.host.proofs.Calls.{encode-said, encode-nothing}
 use Rattle.host.proofs.callinglamp_encode.Statement.{statement}
 use Rattle.host.proofs.callinglamp_encode.Tie as tie
 

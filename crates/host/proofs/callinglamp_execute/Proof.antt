@@ -1,6 +1,6 @@
 -- `host::callinglamp_execute` meets its contract. Assumes nothing.
-use Rattle.host.proofs.Calls.{execute-said}
 use borrow.Author.Needs.{needs}
+use Rattle.host.proofs.Calls.{execute-said}
 use Rattle.host.proofs.callinglamp_execute.Statement.{statement}
 use Rattle.host.proofs.callinglamp_execute.Tie as tie
 

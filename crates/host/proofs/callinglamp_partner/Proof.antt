@@ -1,6 +1,6 @@
 -- `host::callinglamp_partner` meets its contract. Assumes nothing.
-use Rattle.host.proofs.Calls.{partner-said}
 use borrow.Author.Needs.{needs}
+use Rattle.host.proofs.Calls.{partner-said}
 use Rattle.host.proofs.callinglamp_partner.Statement.{statement}
 use Rattle.host.proofs.callinglamp_partner.Tie as tie
 

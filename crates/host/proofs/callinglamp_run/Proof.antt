@@ -1,6 +1,6 @@
 -- `host::callinglamp_run` meets its contract. Assumes nothing.
-use Rattle.host.proofs.Calls.{run-said, run-fits}
 use borrow.Author.Needs.{needs}
+use Rattle.host.proofs.Calls.{run-said, run-fits}
 use Rattle.host.proofs.callinglamp_run.Statement.{statement}
 use Rattle.host.proofs.callinglamp_run.Tie as tie
 

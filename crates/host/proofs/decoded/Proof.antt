@@ -1,6 +1,6 @@
 -- `host::decoded` meets its contract. Assumes nothing.
-use Rattle.host.proofs.Put.{decoded-refused, decoded-word}
 use borrow.Author.Needs.{needs}
+use Rattle.host.proofs.Put.{decoded-refused, decoded-word}
 use Rattle.host.proofs.decoded.Statement.{statement}
 use Rattle.host.proofs.decoded.Tie as tie
 

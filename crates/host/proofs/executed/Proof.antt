@@ -1,6 +1,6 @@
 -- `host::executed` meets its contract. Assumes nothing.
-use Rattle.host.proofs.Put.{executed-refused, executed-done}
 use borrow.Author.Needs.{needs}
+use Rattle.host.proofs.Put.{executed-refused, executed-done}
 use Rattle.host.proofs.executed.Statement.{statement}
 use Rattle.host.proofs.executed.Tie as tie
 

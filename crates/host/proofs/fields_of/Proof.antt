@@ -1,10 +1,10 @@
 -- `host::fields_of` meets its contract. Assumes nothing.
 use mathlib.Core.Path.{ap, sym, _∙_}
+use borrow.Author.Needs.{needs}
 use Rattle.laws.proofs.Tests.{refuted, upheld}
 use Rattle.words.specs.declared.Family.{Family}
 use Rattle.host.specs.Host.{fieldsWith}
 use Rattle.host.proofs.Put.{no-fields, some-fields}
-use borrow.Author.Needs.{needs}
 use Rattle.host.proofs.fields_of.Statement.{statement}
 use Rattle.host.proofs.fields_of.Tie as tie
 

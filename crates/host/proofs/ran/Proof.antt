@@ -2,8 +2,8 @@
 use Prim.Native.Nat.{ℕ}
 use native.Mathlib.Omega.{arith}
 use mathlib.Core.Path.{ap, _∙_}
-use Rattle.host.proofs.Put.{place-fits, words-fit, ran-refused, ran-done}
 use borrow.Author.Needs.{needs}
+use Rattle.host.proofs.Put.{place-fits, words-fit, ran-refused, ran-done}
 use Rattle.host.proofs.ran.Statement.{statement}
 use Rattle.host.proofs.ran.Tie as tie
 

@@ -1,6 +1,6 @@
 -- `host::refused` meets its contract. Assumes nothing.
-use mathlib.Core.Path.{ap, _∙_}
 use Prim.Native.Nat.{ℕ}
+use mathlib.Core.Path.{ap, _∙_}
 use borrow.Author.Needs.{needs}
 use Rattle.host.proofs.refused.Statement.{statement}
 use Rattle.host.proofs.refused.Tie as tie
