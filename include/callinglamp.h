@@ -1,0 +1,151 @@
+/* Callinglamp, for C and C++: the six calls of the proved library, by numbers and bytes.
+ *
+ * `rt staticlib host` proves and builds target/staticlib/libhost.a, for x86-64. "Document 01" is the paper that says
+ * what each call answers, and the words below are its words.
+ *
+ * What C must keep to, since nothing checks it:
+ *   - no pointer is NULL, also where the length beside it is 0;
+ *   - an array has at least the number of elements that is named with it, and a length is true;
+ *   - what a call may change overlaps nothing else that is lent to the same call.
+ * All else may be given: any number, any word, any length, any list. A call keeps nothing after it has returned, and
+ * uses no memory but what is lent to it and the stack. Calls may be made from several threads, if what one may change
+ * is lent to no other meanwhile.
+ *
+ * A refused call writes nothing: every lent byte and number, fields, counts and totals included, is as it was. */
+#ifndef CALLINGLAMP_H
+#define CALLINGLAMP_H
+
+#include <stddef.h>
+#include <stdint.h>
+
+#ifdef __cplusplus
+extern "C" {
+#endif
+
+/* Refusal numbers. A call tests in the order that stands with it, and the first test that fails decides. */
+enum {
+    CALLINGLAMP_ACCEPTED = 0,
+    CALLINGLAMP_BAD_SETTINGS = 1,   /* VL, features or modes outside the rules */
+    CALLINGLAMP_BAD_LENGTH = 2,     /* Z, ZA or report length wrong */
+    CALLINGLAMP_UNKNOWN_WORD = 3,   /* no layout matches, a reserved size, or a feature missing */
+    CALLINGLAMP_WRONG_MODE = 4,     /* the mode does not permit the family */
+    CALLINGLAMP_NO_SUCH_WORD = 5,   /* no word has exactly these fields */
+    CALLINGLAMP_NO_PARTNER = 6,     /* the word is of family C */
+    CALLINGLAMP_LIST_ENDS = 7,      /* the list ends inside a number or the Z bytes, or before one that is due */
+    CALLINGLAMP_BAD_NUMBER = 8,     /* a number whose last of several groups is zero, or whose fifth byte is above 15 */
+    CALLINGLAMP_TOO_MANY_WORDS = 9, /* n above 1,024 */
+    CALLINGLAMP_EXTRA_BYTES = 10    /* bytes after the last word */
+};
+
+/* Every call but percent answers two numbers in one: the refusal number, 0 for accepted, and a value beside it. The
+ * value is the word of an accepted encode or partner, the place of a refused list, and 0 otherwise. */
+static inline uint32_t callinglamp_refusal(uint64_t answer)
+{
+    return (uint32_t)(answer & 0xFFFFFFFFu);
+}
+
+static inline uint32_t callinglamp_value(uint64_t answer)
+{
+    return (uint32_t)(answer >> 32);
+}
+
+/* settings[7]: VL, features, modes, W8, W9, W10, W11.
+ *   VL         128, 256 or 512 bits
+ *   features   a sum of CALLINGLAMP_FEATURE_..; SME2 needs SME, and I16I64 needs SME; 0 is valid, and enables no word
+ *   modes      a sum of CALLINGLAMP_MODE_..; either needs SME
+ *   W8 to W11  the select registers, any number
+ * Settings that do not keep to this are refused with 1 by every call that takes them, before all else. */
+enum { CALLINGLAMP_SETTINGS = 7 };
+
+enum {
+    CALLINGLAMP_FEATURE_ADVSIMD = 1,
+    CALLINGLAMP_FEATURE_SVE2 = 2,
+    CALLINGLAMP_FEATURE_SME = 4,
+    CALLINGLAMP_FEATURE_SME2 = 8,
+    CALLINGLAMP_FEATURE_I16I64 = 16
+};
+
+enum { CALLINGLAMP_MODE_SM = 1, CALLINGLAMP_MODE_ZA = 2 };
+
+/* fields[12]: what a word says, at the places that are named here. A field that a family lacks is 0; the group is
+ * then 1. */
+enum {
+    CALLINGLAMP_FIELD_FAMILY = 0,      /* one of CALLINGLAMP_FAMILY_.. */
+    CALLINGLAMP_FIELD_UNSIGNED = 1,    /* 1 is unsigned; C has 0 */
+    CALLINGLAMP_FIELD_SUBTRACT = 2,    /* 1 subtracts */
+    CALLINGLAMP_FIELD_LANE = 3,        /* 8, 16 or 32 bits */
+    CALLINGLAMP_FIELD_PART = 4,        /* A, B: the half of the first source; C: 0 bottom, 1 top */
+    CALLINGLAMP_FIELD_INDEX = 5,       /* A, C: the element of the second source */
+    CALLINGLAMP_FIELD_DESTINATION = 6, /* A, B, C: the register that changes */
+    CALLINGLAMP_FIELD_FIRST = 7,       /* the first source, or the first register of it */
+    CALLINGLAMP_FIELD_SECOND = 8,      /* the second source, or the first register of it */
+    CALLINGLAMP_FIELD_GROUP = 9,       /* D, E: 2 or 4 */
+    CALLINGLAMP_FIELD_SELECT = 10,     /* D, E: 8 to 11, for W8 to W11 */
+    CALLINGLAMP_FIELD_OFFSET = 11,     /* D, E: the first offset */
+    CALLINGLAMP_FIELDS = 12
+};
+
+enum {
+    CALLINGLAMP_FAMILY_BY_ELEMENT = 1, /* A */
+    CALLINGLAMP_FAMILY_VECTOR = 2,     /* B */
+    CALLINGLAMP_FAMILY_SATURATING = 3, /* C */
+    CALLINGLAMP_FAMILY_LONG_LONG = 4,  /* D */
+    CALLINGLAMP_FAMILY_LONG = 5        /* E */
+};
+
+/* What a word says.
+ *   fields  accepted: the word's fields
+ * Refused with 1; 3 where no layout matches the word, its size is reserved, or the settings lack a feature. */
+uint64_t callinglamp_decode(const uint32_t settings[7], uint32_t word, uint32_t fields[12]);
+
+/* The word that has just these fields. It is the answer's value.
+ *   fields  any numbers; those that are no fields (family not 1 to 5, unsigned or subtract above 1) belong to no word
+ * Refused with 1; 5 where no word of the family's layout has exactly these fields, a field that the family lacks
+ * included; 3 where the settings lack a feature. */
+uint64_t callinglamp_encode(const uint32_t settings[7], const uint32_t fields[12]);
+
+/* The word with S flipped: the same word, but that it subtracts where the other adds. It is the answer's value.
+ * Refused with 1; 3 as in decode; 6 where the word is of family C. */
+uint64_t callinglamp_partner(const uint32_t settings[7], uint32_t word);
+
+/* Runs one word.
+ *   z, z_length    Z: 32 registers of VL/8 bytes, 32 * VL/8 bytes in all
+ *   za, za_length  ZA: VL/8 vectors of VL/8 bytes
+ *   counts         accepted: toggled, the number of bits of Z and ZA that changed, and written
+ * Refused with 1; 2 where a length is not exact, whatever the family; 3 as in decode; 4 where the modes do not permit
+ * the family: A and B need SM off, C needs SM on or SVE2, D and E need SM and ZA on. */
+uint64_t callinglamp_execute(const uint32_t settings[7], uint32_t word, uint8_t *z, size_t z_length, uint8_t *za,
+                             size_t za_length, uint32_t counts[2]);
+
+/* 100 * toggled / written, rounded down; 0 where written is 0. It is never refused, and its answer is the number. */
+uint64_t callinglamp_percent(uint32_t toggled, uint32_t written);
+
+/* A list has at most so many words, and a report of three times as many numbers is long enough for any list. */
+enum { CALLINGLAMP_MOST_WORDS = 1024 };
+
+/* Runs a list of words: VL, features, modes, W8 to W11; the Z bytes as they are; a count n; n words. Its numbers are in
+ * groups of seven bits, low group first, top bit set when another follows, in the shortest form, below 2^32.
+ *   list, list_length      the list's bytes
+ *   z, z_length            as in execute, at the list's VL. Accepted: Z after the last word; what was there is not read
+ *   za, za_length          likewise ZA, which starts at zero
+ *   report, report_length  numbers of 32 bits, at least 3n of them. Accepted: three for each word, in order: the word's
+ *                          refusal (3 or 4) or 0, toggled, written. The rest stays
+ *   totals                 accepted: n, and the sums of toggled and of written
+ * A word that is refused with 3 or 4 changes no register, and the run goes on: the list is accepted.
+ *
+ * Refused for the first fault from left to right. The answer's value is the place of the fault, a byte of the list.
+ *   7   place: the first byte of the number or of the Z bytes in which the list ends, or list_length where a number is
+ *       due and has no byte at all
+ *   8   place: the first byte of the number
+ *   1   after W11; place 0
+ *   2   Z and ZA lengths, which are exact, after the settings; the report's after n, and before the first word; place 0
+ *   9   place: the first byte of n
+ *   10  place: the first extra byte */
+uint64_t callinglamp_run(const uint8_t *list, size_t list_length, uint8_t *z, size_t z_length, uint8_t *za,
+                         size_t za_length, uint32_t *report, size_t report_length, uint32_t totals[3]);
+
+#ifdef __cplusplus
+}
+#endif
+
+#endif
