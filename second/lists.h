@@ -18,7 +18,9 @@ void put_number(struct list *list, uint32_t number);
 /* Takes one list and the name of its kind. The list is lent until the call returns. */
 typedef void take_list(void *context, const char *kind, const struct list *list);
 
-/* Makes all lists, kind after kind, the same ones in the same order at each call. */
-void make_lists(take_list *take, void *context);
+/* Makes all lists, kind after kind: the same ones in the same order at each call with the same seed, which is not 0.
+ * With another seed their words and contents are others. */
+enum { LISTS_SEED = 20011001 };
+void make_lists(uint32_t seed, take_list *take, void *context);
 
 #endif

@@ -528,7 +528,7 @@ static void look_at_list(void *context, const char *kind, const struct list *l)
 
 static void made_lists(void)
 {
-    make_lists(look_at_list, NULL);
+    make_lists(LISTS_SEED, look_at_list, NULL);
     for (size_t k = 0; k < KINDS; k++)
         check(made.counts[k] == kinds[k].count && made.answers[k] == kinds[k].answers, kinds[k].name);
     for (int family = SECOND_FAMILY_A; family <= SECOND_FAMILY_E; family++)
