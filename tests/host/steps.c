@@ -1,0 +1,140 @@
+/* Execute and percent. */
+#include "callinglamp.h"
+#include "inputs.h"
+#include "judge.h"
+#include "parts.h"
+#include "stored.h"
+
+static struct room settings_room, z_room, za_room, counts_room;
+
+/* One execution: what is given, and what Z and ZA are filled with. */
+struct step {
+    struct second_settings s;
+    uint32_t word;
+    size_t z_length, za_length;
+    uint32_t kind;
+};
+
+static void lend_step(const struct step *step)
+{
+    static uint8_t contents[MOST_LENGTH];
+    lend(&settings_room, &step->s, CALLINGLAMP_SETTINGS);
+    fill(contents, step->z_length, step->kind, choose_any());
+    lend(&z_room, contents, step->z_length);
+    fill(contents, step->za_length, step->kind, choose_any());
+    lend(&za_room, contents, step->za_length);
+    lend_random(&counts_room, 2);
+}
+
+static void compare_execute(const struct step *step)
+{
+    uint32_t toggled, written;
+    lend_step(step);
+    struct call call = {EXECUTE, {{"word", step->word}}, {&settings_room, &z_room, &za_room, &counts_room}, 0, 0};
+    int refusal = second_execute(&step->s, step->word, due_bytes(&z_room), step->z_length, due_bytes(&za_room),
+                                 step->za_length, &toggled, &written);
+    if (refusal == SECOND_ACCEPTED) {
+        due_numbers(&counts_room)[0] = toggled;
+        due_numbers(&counts_room)[1] = written;
+    }
+    call.due = answer_of(refusal, 0);
+    call.answer = callinglamp_execute(numbers_of(&settings_room), step->word, bytes_of(&z_room), step->z_length,
+                                      bytes_of(&za_room), step->za_length, numbers_of(&counts_room));
+    judge(&call);
+}
+
+/* One time in three a word of A, B or C has its destination as a source. */
+static void choose_destination(struct second_fields *f)
+{
+    if (f->family > SECOND_FAMILY_C || choose(3) != 0)
+        return;
+    f->destination = choose(2) == 0 ? f->first : f->second;
+}
+
+/* A step that is accepted. */
+static struct step choose_good_step(uint32_t row, uint32_t vl)
+{
+    struct second_fields f = choose_fields_of_row(row);
+    struct step step = {.s = {.vl = vl}, .z_length = second_z_length(vl), .za_length = second_za_length(vl)};
+    choose_destination(&f);
+    choose_permitting(&f, &step.s);
+    for (int i = 0; i < 4; i++)
+        step.s.w[i] = choose_select();
+    step.word = word_of(&f);
+    step.kind = choose(FILL_KINDS);
+    return step;
+}
+
+/* Each fault may come with others, so that the order of the tests shows. */
+static void damage_step(struct step *step)
+{
+    if (choose(4) == 0)
+        step->z_length = choose_wrong_length(step->z_length);
+    if (choose(4) == 0)
+        step->za_length = choose_wrong_length(step->za_length);
+    if (choose(3) == 0)
+        step->word = choose_word();
+    if (choose(2) == 0)
+        step->s.modes = choose(4);
+    if (choose(4) == 0)
+        damage_settings(&step->s);
+}
+
+/* Exact lengths, and Z or ZA or both one byte off each way or with nothing. */
+static void compare_lengths(uint32_t row, uint32_t vl)
+{
+    static const int off[] = {0, 1, -1};
+    for (int i = 0; i < 16; i++) {
+        struct step step = choose_good_step(row, vl);
+        step.z_length = i % 4 == 3 ? 0 : step.z_length + (size_t)off[i % 4];
+        step.za_length = i / 4 == 3 ? 0 : step.za_length + (size_t)off[i / 4];
+        compare_execute(&step);
+    }
+}
+
+static void compare_row(uint32_t row, uint32_t vl)
+{
+    compare_lengths(row, vl);
+    for (int i = 0; i < 1200; i++) {
+        struct step step = choose_good_step(row, vl);
+        compare_execute(&step);
+        damage_step(&step);
+        if (i % 2 == 0)
+            compare_execute(&step);
+    }
+}
+
+static void compare_percent(uint32_t toggled, uint32_t written)
+{
+    struct call call = {PERCENT, {{"toggled", toggled}, {"written", written}}, {NULL}, 0, 0};
+    call.due = second_percent(toggled, written);
+    call.answer = callinglamp_percent(toggled, written);
+    judge(&call);
+}
+
+static void compare_percents(void)
+{
+    static const uint32_t edges[] = {0,   1,   2,    3,    99,   100,  101,  127,       128,       129,
+                                     255, 256, 1023, 1024, 1025, 8191, 8192, 42949672, 42949673, 65535,
+                                     65536, 1u << 24, (1u << 31) - 1, 1u << 31, UINT32_MAX - 1, UINT32_MAX};
+    enum { EDGES = sizeof edges / sizeof *edges };
+    for (size_t i = 0; i < EDGES * EDGES; i++)
+        compare_percent(edges[i / EDGES], edges[i % EDGES]);
+    for (int i = 0; i < 10000; i++) {
+        uint32_t toggled = choose_select(), written = choose_select();
+        compare_percent(toggled, written);
+        compare_percent(toggled % (written / 2 + 1), written);
+    }
+}
+
+void compare_steps(void)
+{
+    settings_room = make_room("settings", sizeof(uint32_t), CALLINGLAMP_SETTINGS);
+    z_room = make_room("z", 1, MOST_LENGTH);
+    za_room = make_room("za", 1, MOST_LENGTH);
+    counts_room = make_room("counts", sizeof(uint32_t), 2);
+    for (uint32_t row = 0; row < ROWS; row++)
+        for (int v = 0; v < 3; v++)
+            compare_row(row, vls[v]);
+    compare_percents();
+}
