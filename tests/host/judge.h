@@ -37,9 +37,9 @@ struct call {
     struct {
         const char *name;
         uint32_t number;
-    } given[2];               /* arguments that are numbers, up to the first with no name */
+    } given[2];                 /* arguments that are numbers, up to the first with no name */
     const struct room *lent[6]; /* up to the first NULL */
-    uint64_t answer, due;     /* the library's, and what the second program says it must be */
+    uint64_t answer, due;       /* the library's, and what the second program says it must be */
 };
 
 /* The answer that a refusal number and a value make. */

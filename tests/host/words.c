@@ -66,9 +66,9 @@ static void compare_neighbours(void)
 
 static uint32_t *field_at(struct second_fields *f, uint32_t place)
 {
-    uint32_t *fields[CALLINGLAMP_FIELDS] = {&f->family, &f->is_unsigned, &f->subtract, &f->lane,
+    uint32_t *fields[CALLINGLAMP_FIELDS] = {&f->family, &f->is_unsigned, &f->subtract,    &f->lane,
                                             &f->part,   &f->index,       &f->destination, &f->first,
-                                            &f->second, &f->group,       &f->select,   &f->offset};
+                                            &f->second, &f->group,       &f->select,      &f->offset};
     return fields[place];
 }
 
@@ -76,8 +76,9 @@ static uint32_t *field_at(struct second_fields *f, uint32_t place)
  * whose low bits are those of a field. Family 0 and 6 and unsigned 2 are among them. */
 static void compare_fields_in_turn(void)
 {
-    static const uint32_t numbers[] = {0,  1,  2,  3,  4,  5,  6,  7,  8,  9,  10,  11,  12,       13,      14,
-                                       15, 16, 17, 24, 28, 30, 31, 32, 33, 64, 128, 256, 1u << 16, 1u << 31, UINT32_MAX};
+    static const uint32_t numbers[] = {0,  1,  2,  3,  4,  5,  6,  7,  8,  9,  10,  11,  12,       13,       14,
+                                       15, 16, 17, 24, 28, 30, 31, 32, 33, 64, 128, 256, 1u << 16, 1u << 31,
+                                       UINT32_MAX};
     const struct second_settings all = {.vl = 256, .features = 31};
     for (uint32_t row = 0; row < ROWS; row++)
         for (uint32_t place = 0; place < CALLINGLAMP_FIELDS; place++)
