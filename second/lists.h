@@ -1,4 +1,5 @@
-/* Run lists of every kind, good and bad, for the list program to be held to. README.md says what the kinds are. */
+/* Run lists of every kind, good and bad, for the list program and the C interface to be held to. README.md says what the
+ * kinds are. */
 #ifndef LISTS_H
 #define LISTS_H
 
