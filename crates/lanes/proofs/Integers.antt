@@ -3,8 +3,9 @@ use mathlib.Core.Path.{_≡_, refl, sym, ap, _∙_}
 use Prim.Native.Nat.{ℕ, zero, suc, _+_, _-_, _*_, _/_, _%_, _^_, _<_, _≤_}
 use native.Mathlib.Nat.{mod-lt, mod-add-mod, add-mul-mod-self-right, div-add-mod', add-mul, one-mul}
 use native.Mathlib.Omega.{arith}
-use lib.IntN.{ℤ, pos, negsuc, negℤ, _-ℤ_, +ℤ-idl}
-use lib.Pow.{pow-pos}
+use lib.IntN.{ℤ, pos, negsuc, _-ℤ_}
+use lib.Pow as Pow
+use lib.Pow.{pow-pos, pow-add, ones-sub-lt, mod-pow-add, mod-mod-pow}
 use borrow.Author.Tests.{lt-ltb, le-ltb}
 use Rattle.laws.proofs.Modulo.{cancel}
 use Rattle.laws.proofs.Tests.{by-lt}
@@ -43,5 +44,19 @@ low-sub-is n a b = by-lt a b
 pub low-sub : (n a b r : ℕ) → r < 2 ^ n → (r + b) % 2 ^ n ≡ a % 2 ^ n → low n (pos a -ℤ pos b) ≡ r
 low-sub n a b r h e = cancel (2 ^ n) _ r b (low-lt n (pos a -ℤ pos b)) h (low-sub-is n a b ∙ sym e)
 
-pub low-neg : (n m : ℕ) → (low n (negℤ (pos m)) + m) % 2 ^ n ≡ zero % 2 ^ n
-low-neg n m = ap (λ (z : ℤ). (low n z + m) % 2 ^ n) (sym (+ℤ-idl (negℤ (pos m)))) ∙ low-sub-is n zero m
+-- the low w bits of the low bits are those of the integer
+low-add : (j w : ℕ) (z : ℤ) → low (j + w) z % 2 ^ w ≡ low w z
+unfolding low
+low-add j w (pos k) = mod-mod-pow k j w
+low-add j w (negsuc k) =
+    let q : ℕ = k / 2 ^ w % 2 ^ j in
+    let d : ℕ = (2 ^ j - 1) - q in
+    let s : d + q + 1 ≡ 2 ^ j = omega (arith, mod-lt (k / 2 ^ w) (pow-pos j)) in
+    let e : (2 ^ (j + w) - 1) - k % 2 ^ (j + w) ≡ d * 2 ^ w + ((2 ^ w - 1) - k % 2 ^ w) =
+    omega (arith, mod-pow-add k j w, pow-add 2 j w, mod-lt k (pow-pos w), ap (λ (n : ℕ). n * 2 ^ w) s) in
+    ap (λ (n : ℕ). n % 2 ^ w) e ∙ Pow.low d w (ones-sub-lt w (k % 2 ^ w))
+
+pub low-low : (w n : ℕ) (z : ℤ) → w ≤ n → low n z % 2 ^ w ≡ low w z
+low-low w n z h =
+    let e : n ≡ n - w + w = omega arith in
+    ap (λ (m : ℕ). low m z % 2 ^ w) e ∙ low-add (n - w) w z

@@ -1,37 +1,17 @@
 -- A saturating step by signs and magnitudes, for any widths. Assumes nothing.
 use mathlib.Core.Path.{_≡_, refl, sym, ap, _∙_}
-use mathlib.Core.Bool.{Bool, true, false, not, Bool·beq, Bool·not-not}
+use mathlib.Core.Bool.{Bool, true, false, not, Bool·beq}
 use Prim.Native.Nat.{ℕ, zero, suc, _+_, _-_, _*_, _^_, _<_, _≤_, min}
 use native.Mathlib.Nat.{zero-min}
 use native.Mathlib.Omega.{arith}
-use lib.IntN.{ℤ, pos, negsuc, negℤ, _+ℤ_, _*ℤ_, +ℤ-idl, +ℤ-comm, negℤ-+ℤ, negℤ-negℤ}
+use lib.IntN.{ℤ, pos, negsuc, negℤ, _+ℤ_, _*ℤ_, +ℤ-idl, negℤ-negℤ}
 use borrow.Author.Tests.{lt-ltb, le-ltb}
 use Rattle.laws.proofs.Tests.{by-lt}
-use Rattle.lanes.specs.Lane.{SInt, Int, low, addSub, clamp, SignedSat, satStep}
+use Rattle.lanes.specs.Lane.{SInt, low, addSub, clamp, SignedSat, satStep}
 use Rattle.lanes.specs.Signed.{value, signs, limit}
-use Rattle.lanes.proofs.Integers.{minus-ge}
-use Rattle.lanes.proofs.Signs.{value-times}
+use Rattle.lanes.proofs.Signs.{sum-same, sum-ge, sum-le, value-times}
 
--- ---- sums of two signs
-
-pub sum-same : (s : Bool) (a b : ℕ) → value s a +ℤ value s b ≡ value s (a + b)
-unfolding value
-sum-same false a b = refl
-sum-same true a b = sym (negℤ-+ℤ (pos a) (pos b))
-
-pub sum-ge : (s : Bool) (a b : ℕ) → b ≤ a → value s a +ℤ value (not s) b ≡ value s (a - b)
-unfolding value
-sum-ge false a b h = minus-ge a b h
-sum-ge true a b h =
-    ap (λ (z : ℤ). negℤ (pos a) +ℤ z) (sym (negℤ-negℤ (pos b)))
-    ∙ sym (negℤ-+ℤ (pos a) (negℤ (pos b)))
-    ∙ ap negℤ (minus-ge a b h)
-
-pub sum-le : (s : Bool) (a b : ℕ) → a ≤ b → value s a +ℤ value (not s) b ≡ value (not s) (b - a)
-sum-le s a b h =
-    +ℤ-comm (value s a) (value (not s) b)
-    ∙ ap (λ (t : Bool). value (not s) b +ℤ value t a) (sym (Bool·not-not s))
-    ∙ sum-ge (not s) b a h
+-- ---- the sum or difference
 
 -- a ± b, by the sign that b is added with
 add-signed : (subtract : Bool) (z : ℤ) (s : Bool) (m : ℕ) → addSub subtract z (value s m) ≡ z +ℤ value (signs s subtract) m
@@ -119,13 +99,13 @@ double true m = ap (value true) (twice m) ∙ sym (value-times false true 2 m)
 
 pub sat-is : (lane wide : ℕ) (subtract : Bool) (a x y r h : ℕ) (s t v d sa e : Bool) (p q m dm ma em : ℕ)
     → h ≡ 2 ^ (wide - 1)
-    → value s p ≡ Int lane false x → value t q ≡ Int lane false y → v ≡ signs s t → m ≡ p * q
+    → value s p ≡ SInt lane x → value t q ≡ SInt lane y → v ≡ signs s t → m ≡ p * q
     → value d dm ≡ clamp h (value v (m + m))
-    → value sa ma ≡ Int wide false a
+    → value sa ma ≡ SInt wide a
     → value e em ≡ clamp h (value sa ma +ℤ value (signs d subtract) dm)
     → r ≡ low wide (pos zero +ℤ value e em)
     → r ≡ satStep lane wide subtract a x y
-unfolding satStep SignedSat Int
+unfolding satStep SignedSat
 sat-is lane wide subtract a x y r h s t v d sa e p q m dm ma em eh ex ey ev ep ed ea ee er =
     er
     ∙ ap (low wide) (+ℤ-idl (value e em) ∙ ee ∙ ap (clamp h) (sym (add-signed subtract (value sa ma) d dm))

@@ -1,40 +1,52 @@
--- A wrapping step by signs and magnitudes, for any widths: what the code's branches ask. Assumes nothing.
+-- Integers by sign and magnitude, for any widths: sums, products, and what the code's branches ask. Assumes nothing.
 use mathlib.Core.Path.{_≡_, refl, sym, ap, _∙_}
-use mathlib.Core.Bool.{Bool, true, false, _||_}
+use mathlib.Core.Bool.{Bool, true, false, not, Bool·not-not}
 use Prim.Native.Nat.{ℕ, zero, suc, _+_, _-_, _*_, _%_, _^_, _<_, _≤_}
-use native.Mathlib.Nat.{mod-mod, mod-add-mod, add-mod-mod, zero-mul, mul-zero, le-of-lt, lt-of-le-of-lt, mul-le-mul-left, mul-lt-mul-of-pos-right}
+use native.Mathlib.Nat.{mod-mod, zero-mul, mul-zero, lt-of-le-of-lt, mul-le-mul-right, mul-lt-mul-of-pos-left}
 use native.Mathlib.Omega.{arith}
 use lib.Dec.{ltb}
-use lib.IntN.{ℤ, pos, negsuc, negℤ, _+ℤ_, _-ℤ_, _*ℤ_}
+use lib.IntN.{ℤ, pos, negℤ, _+ℤ_, _*ℤ_, +ℤ-comm, negℤ-+ℤ, negℤ-negℤ}
 use lib.Pow.{pow-pos, pow-add}
-use borrow.Author.Tests.{ltb-false}
-use Rattle.laws.proofs.Tests.{never-both}
-use Rattle.lanes.specs.Lane.{SInt, Int, low, product, accumulate, laneStep}
+use borrow.Author.Tests.{lt-ltb, le-ltb}
+use Rattle.lanes.specs.Lane.{SInt, low}
 use Rattle.lanes.specs.Signed.{value, signs}
-use Rattle.lanes.proofs.Integers.{minus-lt, low-lt, low-pos, low-sub-is, low-sub, low-neg}
+use Rattle.lanes.proofs.Integers.{minus-ge, low-pos, low-sub}
 
--- ---- reading an element
+-- ---- sums of two signs
 
-neg-of : (m k : ℕ) → m ≡ suc k → negsuc k ≡ negℤ (pos m)
-neg-of m k e = sym (ap (λ (n : ℕ). negℤ (pos n)) e)
+pub sum-same : (s : Bool) (a b : ℕ) → value s a +ℤ value s b ≡ value s (a + b)
+unfolding value
+sum-same false a b = refl
+sum-same true a b = sym (negℤ-+ℤ (pos a) (pos b))
 
--- unsigned, or the top bit is not set
-pub read-low : (w : ℕ) (unsigned : Bool) (x h : ℕ) → h ≡ 2 ^ (w - 1) → (unsigned || ltb x h) ≡ true → value false x ≡ Int w unsigned x
-unfolding Int SInt value
-read-low w true x h eh e = refl
-read-low w false x h eh e = simp (sym (ap (ltb x) eh) ∙ e)
+pub sum-ge : (s : Bool) (a b : ℕ) → b ≤ a → value s a +ℤ value (not s) b ≡ value s (a - b)
+unfolding value
+sum-ge false a b h = minus-ge a b h
+sum-ge true a b h =
+    ap (λ (z : ℤ). negℤ (pos a) +ℤ z) (sym (negℤ-negℤ (pos b)))
+    ∙ sym (negℤ-+ℤ (pos a) (negℤ (pos b)))
+    ∙ ap negℤ (minus-ge a b h)
 
--- signed, and the top bit is set
-pub top-set : (unsigned : Bool) (x h : ℕ) → (unsigned || ltb x h) ≡ false → h ≤ x
-top-set true x h e = absurd (never-both true refl e)
-top-set false x h e = ltb-false x h e
+pub sum-le : (s : Bool) (a b : ℕ) → a ≤ b → value s a +ℤ value (not s) b ≡ value (not s) (b - a)
+sum-le s a b h =
+    +ℤ-comm (value s a) (value (not s) b)
+    ∙ ap (λ (t : Bool). value (not s) b +ℤ value t a) (sym (Bool·not-not s))
+    ∙ sum-ge (not s) b a h
 
-pub read-high : (w : ℕ) (unsigned : Bool) (x h : ℕ) → h ≡ 2 ^ (w - 1) → 2 ^ w ≡ h + h
-    → (unsigned || ltb x h) ≡ false → x < 2 ^ w → value true (h - (x - h)) ≡ Int w unsigned x
-unfolding Int SInt value
-read-high w true x h eh ew e k = absurd (never-both true refl e)
-read-high w false x h eh ew e k =
-    simp (sym (ap (ltb x) eh) ∙ e) (sym (minus-lt x (2 ^ w) k ∙ neg-of (h - (x - h)) (2 ^ w - suc x) (omega (arith, ltb-false x h e))))
+-- ---- reading a signed element
+
+-- the top bit is not set
+pub read-low : (w x h : ℕ) → h ≡ 2 ^ (w - 1) → x < h → value false x ≡ SInt w x
+unfolding SInt value
+read-low w x h eh k = simp (sym (ap (λ (n : ℕ). ltb x n) eh) ∙ lt-ltb x h k)
+
+-- the top bit is set
+pub read-high : (w x h : ℕ) → h ≡ 2 ^ (w - 1) → 2 ^ w ≡ h + h → h ≤ x → x < 2 ^ w → value true (h - (x - h)) ≡ SInt w x
+unfolding SInt value
+read-high w x h eh ew l k =
+    let e : h - (x - h) ≡ 2 ^ w - x = omega arith in
+    let m : x ≤ 2 ^ w = omega arith in
+    simp (sym (ap (λ (n : ℕ). ltb x n) eh) ∙ le-ltb x h l) (ap (value true) e ∙ sym (sum-le false x (2 ^ w) m))
 
 -- ---- the product
 
@@ -50,10 +62,10 @@ value-times true true zero (suc b) = simp zero-mul
 value-times true true (suc a) zero = simp mul-zero
 value-times true true (suc a) (suc b) = refl
 
--- the product of two magnitudes of k bits has at most k + k
-pub below : (k : ℕ) {a b : ℕ} → a < 2 ^ k → b < 2 ^ k → a * b < 2 ^ (k + k)
-below k {a} {b} ha hb =
-    rw pow-add (lt-of-le-of-lt (mul-le-mul-left a (le-of-lt hb)) (mul-lt-mul-of-pos-right ha (pow-pos k)))
+-- the product of magnitudes of j and of k bits has at most j + k
+pub below : (j k : ℕ) {a b : ℕ} → a ≤ 2 ^ j → b < 2 ^ k → a * b < 2 ^ (j + k)
+below j k {a} {b} ha hb =
+    rw pow-add (lt-of-le-of-lt (mul-le-mul-right b ha) (mul-lt-mul-of-pos-left hb (pow-pos j)))
 
 -- ---- adding to the accumulator
 
@@ -65,50 +77,3 @@ added n s a m r e h = rw e (h ∙ sym (low-pos n (a + m)))
 pub subtracted : (n : ℕ) (s : Bool) (a m r : ℕ) → s ≡ true → r < 2 ^ n → (r + m) % 2 ^ n ≡ a → r ≡ low n (pos a +ℤ value s m)
 unfolding value
 subtracted n s a m r e h k = rw e (sym (low-sub n a m r h (sym (mod-mod (r + m) (2 ^ n)) ∙ ap (λ (i : ℕ). i % 2 ^ n) k)))
-
--- q is minus m: adding both changes nothing
-round : (n a m q : ℕ) → (q + m) % 2 ^ n ≡ zero % 2 ^ n → (a + m + q) % 2 ^ n ≡ a % 2 ^ n
-round n a m q e =
-    ap (λ (k : ℕ). k % 2 ^ n) (arrange a m q)
-    ∙ sym (add-mod-mod a (q + m) (2 ^ n))
-    ∙ ap (λ (k : ℕ). (a + k) % 2 ^ n) e
-    ∙ add-mod-mod a zero (2 ^ n)
-    ∙ ap (λ (k : ℕ). k % 2 ^ n) (omega arith)
-  where
-    arrange : (a m q : ℕ) → a + m + q ≡ a + (q + m)
-    arrange a m q = omega arith
-
--- the low bits of a product are accumulated as the product itself is, with its sign turned where it is subtracted
-pub accumulate-value : (n : ℕ) (subtract s : Bool) (a m : ℕ) → accumulate n subtract a (low n (value s m)) ≡ low n (pos a +ℤ value (signs s subtract) m)
-unfolding accumulate value
-accumulate-value n false false a m = simp low-pos (add-mod-mod a m (2 ^ n))
-accumulate-value n true false a m =
-    low-sub n a (low n (pos m)) (low n (pos a -ℤ pos m)) (low-lt n (pos a -ℤ pos m))
-    (ap (λ (k : ℕ). (low n (pos a -ℤ pos m) + k) % 2 ^ n) (low-pos n m) ∙ add-mod-mod _ m (2 ^ n) ∙ low-sub-is n a m)
-accumulate-value n false true a m =
-    sym (low-sub n a m (low n (pos (a + low n (negℤ (pos m))))) (low-lt n (pos (a + low n (negℤ (pos m)))))
-    (ap (λ (k : ℕ). (k + m) % 2 ^ n) (low-pos n (a + low n (negℤ (pos m))))
-    ∙ mod-add-mod (a + low n (negℤ (pos m))) (2 ^ n) m
-    ∙ ap (λ (k : ℕ). k % 2 ^ n) (arrange a m (low n (negℤ (pos m))))
-    ∙ round n a m (low n (negℤ (pos m))) (low-neg n m)))
-  where
-    arrange : (a m q : ℕ) → a + q + m ≡ a + m + q
-    arrange a m q = omega arith
-accumulate-value n true true a m =
-    low-sub n a (low n (negℤ (pos m))) (low n (pos (a + m))) (low-lt n (pos (a + m)))
-    (ap (λ (k : ℕ). (k + low n (negℤ (pos m))) % 2 ^ n) (low-pos n (a + m))
-    ∙ mod-add-mod (a + m) (2 ^ n) (low n (negℤ (pos m)))
-    ∙ round n a m (low n (negℤ (pos m))) (low-neg n m))
-
--- ---- the whole step
-
-pub lane-is : (lane wide : ℕ) (unsigned subtract : Bool) (a x y r : ℕ) (s t v : Bool) (p q m : ℕ)
-    → value s p ≡ Int lane unsigned x → value t q ≡ Int lane unsigned y → v ≡ signs s t → m ≡ p * q
-    → r ≡ low wide (pos a +ℤ value (signs v subtract) m) → r ≡ laneStep lane wide unsigned subtract a x y
-unfolding laneStep product
-lane-is lane wide unsigned subtract a x y r s t v p q m ex ey ev em e =
-    e
-    ∙ sym (accumulate-value wide subtract v a m)
-    ∙ ap (λ (z : ℤ). accumulate wide subtract a (low wide z))
-    (ap (λ (b : Bool). value b m) ev ∙ ap (value (signs s t)) em ∙ sym (value-times s t p q)
-    ∙ ap (λ (z : ℤ). z *ℤ value t q) ex ∙ ap (λ (z : ℤ). Int lane unsigned x *ℤ z) ey)

@@ -1,6 +1,6 @@
 -- What the sizes are. Assumes nothing.
 use mathlib.Core.Path.{_≡_, refl}
-use Prim.Native.Nat.{ℕ, _+_, _-_, _*_, _^_, _<_, _≤_}
+use Prim.Native.Nat.{ℕ, _+_, _-_, _^_, _<_, _≤_}
 use native.Mathlib.Nat.{lt-of-lt-of-le}
 use native.Mathlib.Omega.{arith}
 use lib.Dec.{lit≤}
@@ -8,7 +8,6 @@ use lib.Pow.{pow-mono}
 use Rattle.elements.specs.declared.Size.{Size}
 use Rattle.elements.specs.declared.Size.the-variants.{Bits8, Bits16, Bits32, Bits64}
 use Rattle.elements.specs.Size.{bitsOf}
-use Rattle.lanes.proofs.Signs.{below}
 
 pub halves : (s : Size) → 2 ^ bitsOf s ≡ 2 ^ (bitsOf s - 1) + 2 ^ (bitsOf s - 1)
 halves Bits8 = refl
@@ -26,10 +25,6 @@ range Bits64 = (lit≤ tt, lit≤ tt)
 pub holds-two : (lane wide : Size) → bitsOf lane + bitsOf lane ≤ bitsOf wide → (bitsOf lane ≤ 32) × (16 ≤ bitsOf wide)
 holds-two lane wide h = (omega (arith, range wide .1), omega (arith, range lane .0))
 
--- the magnitudes of two factors, and of their product
+-- the magnitude of a factor
 pub narrow : (lane wide : Size) → bitsOf lane + bitsOf lane ≤ bitsOf wide → (m : ℕ) → m < 2 ^ bitsOf lane → m < 2 ^ 32
 narrow lane wide h m k = lt-of-lt-of-le k (pow-mono (holds-two lane wide h .0))
-
-pub product-fits : (lane wide : Size) → bitsOf lane + bitsOf lane ≤ bitsOf wide → (p q m : ℕ)
-    → p < 2 ^ bitsOf lane → q < 2 ^ bitsOf lane → m ≡ p * q → m < 2 ^ bitsOf wide
-product-fits lane wide h p q m hp hq e = rw e (lt-of-lt-of-le (below (bitsOf lane) hp hq) (pow-mono h))

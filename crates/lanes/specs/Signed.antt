@@ -1,4 +1,4 @@
--- What only the contracts of private functions use, and no promise of `step` names: an integer by its sign and magnitude.
+-- What only the contracts of private functions use, and no promise of `lane_step` or `sat_step` names: an integer by its sign and magnitude.
 use Prim.Native.Nat.{ℕ, _-_}
 use mathlib.Core.Bool.{Bool, true, false, not, cond, Bool·beq}
 use lib.IntN.{ℤ, pos, negℤ}

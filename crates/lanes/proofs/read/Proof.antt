@@ -3,7 +3,7 @@ use Prim.Native.Nat.{_-_}
 use native.Mathlib.Omega.{arith}
 use lib.Pow.{pow-pos}
 use Rattle.elements.specs.Size.{bitsOf}
-use Rattle.lanes.proofs.Signs.{read-low, top-set, read-high}
+use Rattle.lanes.proofs.Signs.{read-low, read-high}
 use Rattle.lanes.proofs.Sizes.{halves}
 use borrow.Author.Needs.{needs}
 use Rattle.lanes.proofs.read.Statement.{statement}
@@ -13,22 +13,19 @@ half-requires : tie.Need-half-requires
 half-requires c κs = search needs
 
 returns : tie.Need-returns
-returns c = (read-low (bitsOf (c .before .before .args .size)) _ _ _ (c .before .half .ensures) (c .if1 .taken), c .before .before .pre)
+returns c = (read-low (bitsOf (c .before .before .args .size)) _ _ (c .before .half .ensures) (c .if1 .taken), c .before .before .pre)
 
-sub-t7 : tie.Need-sub-t7
-sub-t7 c = let a = c .before .before .args in top-set (a .unsigned) (a .x) _ (c .if1 .left)
-
-sub-t8 : tie.Need-sub-t8
-sub-t8 c = let a = c .before .before in omega (arith, halves (a .args .size), a .pre, c .before .half .ensures, top-set (a .args .unsigned) (a .args .x) _ (c .if1 .left))
+sub-t6 : tie.Need-sub-t6
+sub-t6 c = let a = c .before .before in omega (arith, halves (a .args .size), a .pre, c .before .half .ensures)
 
 returns-2 : tie.Need-returns-2
 returns-2 c =
     let a = c .before .before in
     let h = c .before .half in
     let n = bitsOf (a .args .size) in (
-      read-high n _ _ _ (h .ensures) (omega (arith, halves (a .args .size), h .ensures)) (c .if1 .left) (a .pre),
+      read-high n _ _ (h .ensures) (omega (arith, halves (a .args .size), h .ensures)) (c .if1 .left) (a .pre),
       omega (arith, halves (a .args .size), h .ensures, pow-pos (n - 1)),
     )
 
 pub read-spec : {M : Type 1} → statement M
-read-spec = tie.close (tie.spec half-requires returns sub-t7 sub-t8 returns-2)
+read-spec = tie.close (tie.spec half-requires returns sub-t6 returns-2)

@@ -3,6 +3,7 @@ use Prim.Native.Nat.{_-_}
 use native.Mathlib.Omega.{arith}
 use lib.Pow.{pow-pos}
 use Rattle.elements.specs.Size.{bitsOf}
+use Rattle.lanes.proofs.Laws.{satStep-lt}
 use Rattle.lanes.proofs.Saturation.{sat-is}
 use Rattle.lanes.proofs.Sizes.{halves, holds-two, narrow}
 use borrow.Author.Needs.{needs}
@@ -52,7 +53,7 @@ returns c =
     let h = d .before in
     let t = h .before in
     let a = t .before .before .before .args in
-    sat-is (bitsOf (a .lane)) (bitsOf (a .wide)) (a .subtract) (a .acc) (a .x) (a .y) _ _ _ _ _ _ _ _ _ _ _ _ _ _
+    let e = sat-is (bitsOf (a .lane)) (bitsOf (a .wide)) (a .subtract) (a .acc) (a .x) (a .y) _ _ _ _ _ _ _ _ _ _ _ _ _ _
     (h .half .ensures)
     (t .before .before .read .ensures .0)
     (t .before .read2 .ensures .0)
@@ -61,7 +62,8 @@ returns c =
     (d .clamp-sum .ensures .0)
     (r .read3 .ensures .0)
     (s .clamp-add .ensures .0)
-    (c .accumulate .ensures)
+    (c .accumulate .ensures) in
+    (e, rw e (satStep-lt (bitsOf (a .lane)) (bitsOf (a .wide)) _ _ _ _))
 
 pub sat-step-spec : {M : Type 1} → statement M
 sat-step-spec =
