@@ -2,6 +2,7 @@
 use Prim.Native.Nat.{ℕ, _+_, _*_, _≤_}
 use native.Mathlib.Omega.{arith}
 use mathlib.Core.Path.{_≡_, sym, _∙_}
+use mathlib.Core.Bool.{true}
 use mathlib.Core.List.{List}
 use lib.ListN.{drop}
 use Rattle.elements.specs.Size.{bitsOf, bytesOf}
@@ -9,7 +10,7 @@ use Rattle.elements.specs.Elements.{elementAt}
 use Rattle.elements.specs.declared.Size.{Size}
 use Rattle.elements.specs.declared.Size.the-variants.{Bits8, Bits16, Bits32, Bits64}
 use Rattle.elements.proofs.Elements.{elementAt-drop}
-use Rattle.lanes.specs.Lane.{step}
+use Rattle.lanes.specs.Lane.{satStep, step}
 use Rattle.recipes.specs.Element.{chosen, newElement}
 use Rattle.recipes.specs.declared.Recipe.{Recipe}
 
@@ -24,14 +25,16 @@ number-le Bits64 x = omega arith
 pub at-place : (k n j c b x : ℕ) (z : List ℕ) → c ≡ j → b ≡ k → x ≡ elementAt k (n + c * b) z → x ≡ elementAt k (j * k) (drop n z)
 at-place k n j c b x z ec eb ex = ex ∙ rw (ec, eb) (sym (elementAt-drop k (j * k) n z))
 
+-- a new element of C
 pub element-is : (r : Recipe) (old first second : List ℕ) (e a x y new : ℕ)
     → a ≡ elementAt (bytesOf (r .wide)) (e * bytesOf (r .wide)) old
     → x ≡ elementAt (bytesOf (r .lane)) (chosen (r .lane) (r .first) e * bytesOf (r .lane)) first
     → y ≡ elementAt (bytesOf (r .lane)) (chosen (r .lane) (r .second) e * bytesOf (r .lane)) second
-    → new ≡ step (r .saturating) (bitsOf (r .lane)) (bitsOf (r .wide)) (r .unsigned) (r .subtract) a x y
+    → r .saturating ≡ true
+    → new ≡ satStep (bitsOf (r .lane)) (bitsOf (r .wide)) (r .subtract) a x y
     → new ≡ newElement r old first second e
-unfolding newElement
-element-is r old first second e a x y new ea ex ey en = rw (← ea, ← ex, ← ey) en
+unfolding newElement step
+element-is r old first second e a x y new ea ex ey es en = rw (← ea, ← ex, ← ey, es) en
 
 -- room for an element, by the numbers that the code has
 pub room-by : (n j c k b long : ℕ) → c ≡ j → b ≡ k → n + (j * k + k) ≤ long → n + (c * b + b) ≤ long

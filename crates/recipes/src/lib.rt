@@ -1,4 +1,5 @@
 ghost use mathlib.Core.Path.{_≡_};
+ghost use mathlib.Core.Bool.{true};
 ghost use Prim.Native.Nat.{_+_, _*_, _-_, _%_, _/_, _<_, _^_};
 ghost use lib.ListN.{length, drop};
 ghost use Rattle.recipes.specs.Recipe.{sizeOf, doubled, each, eachSegment, halfOf, recipe as recipePaper, recipeOf};
@@ -134,7 +135,7 @@ fn chosen(lane: Size, choice: Choice, e: usize) -> usize
     by * e + from
 }
 
-// Element e of a new vector, of the old one from byte `at` on and the sources from bytes `n` and `m` on.
+// Element e of a new vector of C, of the old one from byte `at` on and the sources from bytes `n` and `m` on.
 fn fresh<'a>(
     recipe: Recipe,
     old: &'a [u8],
@@ -145,6 +146,7 @@ fn fresh<'a>(
     e: usize,
 ) -> u64
     requires { ⌜ ElementPlaces recipe (now old) at (now z) n m e ⌝ }
+    requires { ⌜ recipe .saturating ≡ true ⌝ }
     ensures { λ r. ⌜ r ≡ newElement recipe (drop at (now (old .entry))) (drop n (now (z .entry))) (drop m (now (z .entry))) e ⌝ }
 {
     let lane = recipe.lane;
@@ -155,19 +157,11 @@ fn fresh<'a>(
     let a = elements::element_at(old, at + e * elements::bytes_of(wide), wide);
     let x = elements::element_at(z, n + chosen(lane, first, e) * k, lane);
     let y = elements::element_at(z, m + chosen(lane, second, e) * k, lane);
-    lanes::step(
-        recipe.saturating,
-        lane,
-        wide,
-        recipe.unsigned,
-        recipe.subtract,
-        a,
-        x,
-        y,
-    )
+    lanes::sat_step(lane, wide, recipe.subtract, a, x, y)
 }
 
-// A new vector, built aside: every source is read before the destination changes. This is the one loop over elements, for all families.
+// A new vector of C, built aside: every source is read before the destination changes, which may be one of them. Only C is built
+// so; its step is the one that saturates.
 pub fn build<'a>(
     recipe: Recipe,
     old: &'a [u8],
@@ -178,6 +172,7 @@ pub fn build<'a>(
     out: &mut [u8],
 )
     requires { ⌜ VectorPlaces recipe (length (now out)) (now old) at (now z) n m ⌝ }
+    requires { ⌜ recipe .saturating ≡ true ⌝ }
     ensures { λ r. ⌜ now (out .exit) ≡ newBytes recipe (length (now (out .entry))) (drop at (now (old .entry))) (drop n (now (z .entry))) (drop m (now (z .entry))) ⌝ }
 {
     let wide = recipe.wide;

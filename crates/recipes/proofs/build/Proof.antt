@@ -28,7 +28,7 @@ room : (c : tie.In-loop Inv-loop μ-loop) → c .before .loop .o + c .before .be
 room c =
     omega (
       arith,
-      next-room (S c .args .recipe .wide) (length (S c .args .out .now)) _ (c .before .loop .e) (c .before .before .bytes-of .ensures) (S c .pre .whole) (c .loop-test .taken),
+      next-room (S c .args .recipe .wide) (length (S c .args .out .now)) _ (c .before .loop .e) (c .before .before .bytes-of .ensures) (S c .pre .0 .whole) (c .loop-test .taken),
       c .before .loop .inv .1,
     )
 
@@ -45,7 +45,7 @@ loop-holds c = (omega arith, omega arith, refl, refl)
 fresh-requires : tie.Need-fresh-requires Inv-loop μ-loop
 fresh-requires c κs =
     let a = S c .args in
-    next-places (a .recipe) (length (a .out .now)) (a .old .now) (a .at) (a .z .now) (a .n) (a .m) _ (c .before .loop .e) (S c .pre) (c .before .before .bytes-of .ensures) (c .loop-test .taken)
+    (next-places (a .recipe) (length (a .out .now)) (a .old .now) (a .at) (a .z .now) (a .n) (a .m) _ (c .before .loop .e) (S c .pre .0) (c .before .before .bytes-of .ensures) (c .loop-test .taken), S c .pre .1)
 
 put-element-requires : tie.Need-put-element-requires Inv-loop μ-loop
 put-element-requires c κs = omega (arith, room (c .before .before), c .before .before .before .before .bytes-of .ensures)
@@ -84,7 +84,7 @@ returns c =
     let b = c .before .before in
     let s = b .before .before .before .before in
     let a = s .args in
-    all-built (a .recipe) (drop (a .at) (a .old .now)) (drop (a .n) (a .z .now)) (drop (a .m) (a .z .now)) _ (l .e) (a .out .now) (l .out) (b .bytes-of .ensures) (s .pre .whole) (l .inv .0) (c .loop-test .left) (l .inv .2)
+    all-built (a .recipe) (drop (a .at) (a .old .now)) (drop (a .n) (a .z .now)) (drop (a .m) (a .z .now)) _ (l .e) (a .out .now) (l .out) (b .bytes-of .ensures) (s .pre .0 .whole) (l .inv .0) (c .loop-test .left) (l .inv .2)
 
 pub build-spec : {M : Type 1} → statement M
 build-spec =

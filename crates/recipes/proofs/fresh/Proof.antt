@@ -15,17 +15,17 @@ S b = b .before .before .before .before .before .before
 
 -- the places, by the sizes that the code has asked for
 old-room : (b : tie.After-bytes-of2) → S b .args .at + (S b .args .e * b .bytes-of2 .result + b .bytes-of2 .result) ≤ length (S b .args .old .now)
-old-room b = room-by (S b .args .at) _ _ _ _ _ refl (b .bytes-of2 .ensures) (S b .pre .room)
+old-room b = room-by (S b .args .at) _ _ _ _ _ refl (b .bytes-of2 .ensures) (S b .pre .0 .room)
 
 first-room : (c : tie.After-chosen)
     → let b = c .before .before in
     S b .args .n + (c .chosen .result * b .before .bytes-of .result + b .before .bytes-of .result) ≤ length (S b .args .z .now)
-first-room c = let b = c .before .before in room-by (S b .args .n) _ _ _ _ _ (c .chosen .ensures) (b .before .bytes-of .ensures) (S b .pre .first)
+first-room c = let b = c .before .before in room-by (S b .args .n) _ _ _ _ _ (c .chosen .ensures) (b .before .bytes-of .ensures) (S b .pre .0 .first)
 
 second-room : (c : tie.After-chosen2)
     → let b = c .before .before .before .before in
     S b .args .m + (c .chosen2 .result * b .before .bytes-of .result + b .before .bytes-of .result) ≤ length (S b .args .z .now)
-second-room c = let b = c .before .before .before .before in room-by (S b .args .m) _ _ _ _ _ (c .chosen2 .ensures) (b .before .bytes-of .ensures) (S b .pre .second)
+second-room c = let b = c .before .before .before .before in room-by (S b .args .m) _ _ _ _ _ (c .chosen2 .ensures) (b .before .bytes-of .ensures) (S b .pre .0 .second)
 
 bytes-of-requires : tie.Need-bytes-of-requires
 bytes-of-requires c κs = search needs
@@ -45,7 +45,7 @@ element-at-requires c κs = omega (arith, old-room c, c .bytes-of2 .ensures)
 chosen-requires : tie.Need-chosen-requires
 chosen-requires c κs =
     let s = S (c .before) in
-    omega (arith, number-le (s .args .recipe .lane) (chosen (s .args .recipe .lane) (s .args .recipe .first) (s .args .e)), s .pre .first)
+    omega (arith, number-le (s .args .recipe .lane) (chosen (s .args .recipe .lane) (s .args .recipe .first) (s .args .e)), s .pre .0 .first)
 
 mul-element-at-2 : tie.Need-mul-element-at-2
 mul-element-at-2 c = omega (arith, first-room c)
@@ -59,7 +59,7 @@ element-at-requires-2 c κs = omega (arith, first-room c, c .before .before .bef
 chosen-requires-2 : tie.Need-chosen-requires-2
 chosen-requires-2 c κs =
     let s = S (c .before .before .before) in
-    omega (arith, number-le (s .args .recipe .lane) (chosen (s .args .recipe .lane) (s .args .recipe .second) (s .args .e)), s .pre .second)
+    omega (arith, number-le (s .args .recipe .lane) (chosen (s .args .recipe .lane) (s .args .recipe .second) (s .args .e)), s .pre .0 .second)
 
 mul-element-at-3 : tie.Need-mul-element-at-3
 mul-element-at-3 c = omega (arith, second-room c)
@@ -70,8 +70,8 @@ add-element-at-3 c = omega (arith, second-room c)
 element-at-requires-3 : tie.Need-element-at-requires-3
 element-at-requires-3 c κs = omega (arith, second-room c, c .before .before .before .before .before .bytes-of .ensures)
 
-step-requires : tie.Need-step-requires
-step-requires c κs = search needs
+sat-step-requires : tie.Need-sat-step-requires
+sat-step-requires c κs = search needs
 
 returns : tie.Need-returns
 returns c =
@@ -84,7 +84,8 @@ returns c =
     (at-place (bytesOf (a .recipe .wide)) (a .at) (a .e) _ _ _ (a .old .now) refl (b .bytes-of2 .ensures) (x .before .before .element-at .ensures .0))
     (at-place k (a .n) (chosen (a .recipe .lane) (a .recipe .first) (a .e)) _ _ _ (a .z .now) (x .before .chosen .ensures) (b .before .bytes-of .ensures) (x .element-at2 .ensures .0))
     (at-place k (a .m) (chosen (a .recipe .lane) (a .recipe .second) (a .e)) _ _ _ (a .z .now) (y .before .chosen2 .ensures) (b .before .bytes-of .ensures) (y .element-at3 .ensures .0))
-    (c .step .ensures .0)
+    (S b .pre .1)
+    (c .sat-step .ensures .0)
 
 pub fresh-spec : {M : Type 1} → statement M
 fresh-spec =
@@ -103,5 +104,5 @@ fresh-spec =
     mul-element-at-3
     add-element-at-3
     element-at-requires-3
-    step-requires
+    sat-step-requires
     returns)
