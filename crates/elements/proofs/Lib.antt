@@ -1,3 +1,4 @@
 pub mod Elements
 pub mod Vectors
+pub mod Lanes
 pub mod Files

@@ -1,5 +1,7 @@
 -- The sizes of an element.
 use Prim.Native.Nat.{ℕ}
+use mathlib.Core.Path.{_≡_}
+use mathlib.Core.Logic.{_⊎_}
 use Rattle.elements.specs.declared.Size.{Size}
 use Rattle.elements.specs.declared.Size.the-variants.{Bits8, Bits16, Bits32, Bits64}
 
@@ -23,3 +25,7 @@ perHalf Bits8 = 8
 perHalf Bits16 = 4
 perHalf Bits32 = 2
 perHalf Bits64 = 1
+
+-- a lane has 8, 16 or 32 bits
+abbrev pub IsLane : ℕ → Type 0
+IsLane bits = (bits ≡ 8) ⊎ ((bits ≡ 16) ⊎ (bits ≡ 32))

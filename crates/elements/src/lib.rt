@@ -1,7 +1,7 @@
 ghost use mathlib.Core.Path.{_≡_};
-ghost use Prim.Native.Nat.{_+_, _%_, _^_, _<_, _≤_};
+ghost use Prim.Native.Nat.{_+_, _/_, _%_, _^_, _<_, _≤_};
 ghost use lib.ListN.{length};
-ghost use Rattle.elements.specs.Size.{bitsOf, bytesOf, perHalf};
+ghost use Rattle.elements.specs.Size.{bitsOf, bytesOf, perHalf, IsLane};
 ghost use Rattle.elements.specs.Elements.{elementAt, putAt};
 
 // The sizes of an element.
@@ -70,7 +70,8 @@ fn read4(s: &[u8], at: usize) -> u64
     read2(s, at) + read2(s, at + 2) * 65536
 }
 
-fn read8(s: &[u8], at: usize) -> u64
+// Eight bytes as a number.
+pub fn read8(s: &[u8], at: usize) -> u64
     requires { ⌜ at + 8 ≤ length (now s) ⌝ }
     ensures { λ r. ⌜ (r ≡ elementAt 8 at (now (s .entry))) × (r < 2 ^ 64) ⌝ }
 {
@@ -113,7 +114,8 @@ fn put4(s: &mut [u8], at: usize, v: u64)
     put2(s, at + 2, v / 65536);
 }
 
-fn put8(s: &mut [u8], at: usize, v: u64)
+// Eight bytes become those of v.
+pub fn put8(s: &mut [u8], at: usize, v: u64)
     requires { ⌜ at + 8 ≤ length (now s) ⌝ }
     ensures { λ r. ⌜ now (s .exit) ≡ putAt 8 at v (now (s .entry)) ⌝ }
 {
@@ -132,4 +134,19 @@ pub fn put_element(s: &mut [u8], at: usize, size: Size, v: u64)
         Size::Bits32 => put4(s, at, v),
         Size::Bits64 => put8(s, at, v),
     }
+}
+
+// The lane of 8, 16 or 32 bits at a place. Its size is a number, by value, so that where it is a literal the compiler leaves one load.
+pub fn lane_at(s: &[u8], at: usize, lane: usize) -> u64
+    requires { ⌜ IsLane lane ⌝ }
+    requires { ⌜ at + lane / 8 ≤ length (now s) ⌝ }
+    ensures { λ r. ⌜ (r ≡ elementAt (lane / 8) at (now (s .entry))) × (r < 2 ^ lane) ⌝ }
+{
+    if lane == 8 {
+        return read1(s, at);
+    }
+    if lane == 16 {
+        return read2(s, at);
+    }
+    read4(s, at)
 }

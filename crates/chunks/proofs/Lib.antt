@@ -1,0 +1,4 @@
+pub mod Joined
+pub mod Parts
+pub mod Strides
+pub mod Renewed

@@ -1,0 +1,60 @@
+-- A chunk of one, two or four elements, from the elements. Assumes nothing.
+use mathlib.Core.Path.{_≡_, sym, ap, _∙_}
+use mathlib.Core.Logic.{⊎-elim}
+use mathlib.Core.Bool.{Bool}
+use mathlib.Core.List.{List}
+use Prim.Native.Nat.{ℕ, _+_, _*_, _/_, _%_, _^_, _<_}
+use native.Mathlib.Omega.{arith}
+use Rattle.elements.specs.Elements.{elementAt}
+use Rattle.lanes.specs.Lane.{laneStep}
+use Rattle.chunks.specs.Chunk.{joined, partStep, chunk, OfArray}
+
+-- what `element` ensures, where the code has worked out the places by itself
+abbrev Element : ℕ → ℕ → Bool → Bool → List ℕ → ℕ → ℕ → ℕ → ℕ → Type 0
+Element lane wide u s z old x y r = r ≡ laneStep lane wide u s old (elementAt (lane / 8) x z) (elementAt (lane / 8) y z)
+
+pub part-is : (lane wide : ℕ) (u s : Bool) (old : ℕ) (z : List ℕ) (x dx y dy j o px py r : ℕ)
+    → o ≡ old / 256 ^ (j * (wide / 8)) % 256 ^ (wide / 8) → px ≡ x + j * dx → py ≡ y + j * dy
+    → Element lane wide u s z o px py r → r ≡ partStep lane wide u s old z x dx y dy j
+unfolding partStep
+part-is lane wide u s old z x dx y dy j o px py r eo ex ey er = rw (← eo, ← ex, ← ey) er
+
+module _ (lane : ℕ) (u s : Bool) (old : ℕ) (z : List ℕ) (x dx y dy : ℕ) (small : old < 2 ^ 64) where
+  pub one-is : (a : ℕ) → Element lane 64 u s z old x y a → a ≡ chunk lane 64 u s old z x dx y dy
+  unfolding chunk joined
+  one-is a ea = rw (← part-is lane 64 u s old z x dx y dy 0 old x y a (omega arith) (omega arith) (omega arith) ea) (omega arith)
+
+  pub two-is : (a b : ℕ) → Element lane 32 u s z (old % 4294967296) x y a → Element lane 32 u s z (old / 4294967296) (x + dx) (y + dy) b
+      → a + b * 4294967296 ≡ chunk lane 32 u s old z x dx y dy
+  unfolding chunk joined
+  two-is a b ea eb =
+      rw (
+        ← part-is lane 32 u s old z x dx y dy 0 _ x y a (omega arith) (omega arith) (omega arith) ea,
+        ← part-is lane 32 u s old z x dx y dy 1 _ (x + dx) (y + dy) b (omega arith) (omega arith) (omega arith) eb,
+      )
+      (omega arith)
+
+  pub four-is : (a b c d x1 x2 x3 y1 y2 y3 : ℕ) → x1 ≡ x + 1 * dx → x2 ≡ x + 2 * dx → x3 ≡ x + 3 * dx → y1 ≡ y + 1 * dy → y2 ≡ y + 2 * dy → y3 ≡ y + 3 * dy
+      → Element lane 16 u s z (old % 65536) x y a → Element lane 16 u s z (old / 65536 % 65536) x1 y1 b
+      → Element lane 16 u s z (old / 4294967296 % 65536) x2 y2 c → Element lane 16 u s z (old / 281474976710656) x3 y3 d
+      → a + b * 65536 + c * 4294967296 + d * 281474976710656 ≡ chunk lane 16 u s old z x dx y dy
+  unfolding chunk joined
+  four-is a b c d x1 x2 x3 y1 y2 y3 e1 e2 e3 f1 f2 f3 ea eb ec ed =
+      rw (
+        ← part-is lane 16 u s old z x dx y dy 0 _ x y a (omega arith) (omega arith) (omega arith) ea,
+        ← part-is lane 16 u s old z x dx y dy 1 _ x1 y1 b (omega arith) e1 f1 eb,
+        ← part-is lane 16 u s old z x dx y dy 2 _ x2 y2 c (omega arith) e2 f2 ec,
+        ← part-is lane 16 u s old z x dx y dy 3 _ x3 y3 d (omega arith) e3 f3 ed,
+      )
+      (omega arith)
+
+-- ---- the lanes of words that write ZA
+
+pub array-64 : (lane wide : ℕ) → OfArray lane wide → wide ≡ 64 → lane ≡ 16
+array-64 lane wide o e = ⊎-elim (λ (h : (lane ≡ 8) × (wide ≡ 32)). absurd (omega (arith, h .1))) (⊎-elim (λ (h : (lane ≡ 16) × (wide ≡ 64)). h .0) (λ (h : (lane ≡ 16) × (wide ≡ 32)). h .0)) o
+
+pub array-32 : (lane wide : ℕ) → OfArray lane wide → (wide ≡ 64 → ⊥) → wide ≡ 32
+array-32 lane wide o e = ⊎-elim (λ (h : (lane ≡ 8) × (wide ≡ 32)). h .1) (⊎-elim (λ (h : (lane ≡ 16) × (wide ≡ 64)). absurd (e (h .1))) (λ (h : (lane ≡ 16) × (wide ≡ 32)). h .1)) o
+
+pub array-16 : (lane wide : ℕ) → OfArray lane wide → (lane ≡ 8 → ⊥) → lane ≡ 16
+array-16 lane wide o e = ⊎-elim (λ (h : (lane ≡ 8) × (wide ≡ 32)). absurd (e (h .0))) (⊎-elim (λ (h : (lane ≡ 16) × (wide ≡ 64)). h .0) (λ (h : (lane ≡ 16) × (wide ≡ 32)). h .0)) o

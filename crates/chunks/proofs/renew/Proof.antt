@@ -1,0 +1,133 @@
+-- `chunks::renew` meets its contract. Assumes nothing.
+use mathlib.Core.Path.{_≡_, refl, sym}
+use Prim.Native.Nat.{_+_, _-_, _*_, _/_, _%_, _≤_}
+use native.Mathlib.Omega.{arith}
+use lib.ListN.{length}
+use lib.Bits.{bitXor}
+use lib.Count.{ones}
+use borrow.Author.Needs.{needs}
+use Rattle.elements.proofs.Vectors.{written}
+use Rattle.bits.specs.Bits.{toggled}
+use Rattle.bits.proofs.Bits.{toggled-same}
+use Rattle.bits.proofs.Put.{Upto, few-ones}
+use Rattle.chunks.specs.Chunk.{strideBytes}
+use Rattle.chunks.proofs.Renewed.{turned, whole, even-array, array-small, array-reach, array-place}
+use Rattle.chunks.proofs.renew.Statement.{statement}
+use Rattle.chunks.proofs.renew.Tie as tie
+
+abbrev Inv-loop : tie.InvT-loop
+Inv-loop lane wide unsigned subtract za₀ at z x y bytes t₀ o₀ za t o =
+    (o ≤ bytes) × (o % 8 ≡ 0) × Upto za₀ (strideBytes lane wide unsigned subtract za₀ at z x (wide / 8) y (wide / 8) bytes) at o za × (t ≡ toggled za₀ za) × (t ≤ 8 * o) × (length za ≡ length za₀)
+
+abbrev μ-loop : tie.MeasureT-loop
+μ-loop lane wide unsigned subtract za₀ at z x y bytes t₀ o₀ za t o = bytes - o
+
+abbrev S : tie.In-loop Inv-loop μ-loop → tie.Start Inv-loop μ-loop
+S c = c .before .before .before .before
+
+-- in a turn, eight bytes are left
+eight : (c : tie.In-loop Inv-loop μ-loop) → c .before .loop .o + 8 ≤ S c .args .bytes
+eight c = omega arith
+
+loop-holds : tie.Need-loop-holds Inv-loop μ-loop
+unfolding written
+loop-holds c = (omega arith, omega arith, refl, sym (toggled-same _), omega arith, refl)
+
+add-read8 : tie.Need-add-read8 Inv-loop μ-loop
+add-read8 c = omega (arith, eight (c .before))
+
+read8-requires : tie.Need-read8-requires Inv-loop μ-loop
+read8-requires c κs = omega (arith, eight (c .before))
+
+add-array-chunk : tie.Need-add-array-chunk Inv-loop μ-loop
+add-array-chunk c =
+    let t = c .before .before in
+    let s = S t in
+    omega (arith, eight t, array-small (s .args .lane) (s .args .wide) (s .pre .0))
+
+add-array-chunk-2 : tie.Need-add-array-chunk-2 Inv-loop μ-loop
+add-array-chunk-2 c =
+    let t = c .before .before in
+    let s = S t in
+    omega (arith, eight t, array-small (s .args .lane) (s .args .wide) (s .pre .0))
+
+array-chunk-requires : tie.Need-array-chunk-requires Inv-loop μ-loop
+array-chunk-requires c κs =
+    let t = c .before .before in
+    let s = S t in
+    let p = s .pre .1 .1 in
+    (s .pre .0, (array-reach (s .args .lane) (s .args .wide) (s .pre .0) (s .args .x) (t .before .loop .o) (s .args .bytes) _ (eight t) (p .0), array-reach (s .args .lane) (s .args .wide) (s .pre .0) (s .args .y) (t .before .loop .o) (s .args .bytes) _ (eight t) (p .1)))
+
+add-put8 : tie.Need-add-put8 Inv-loop μ-loop
+add-put8 c = omega (arith, eight (c .before .before .before .before))
+
+put8-requires : tie.Need-put8-requires Inv-loop μ-loop
+put8-requires c κs = omega (arith, eight (c .before .before .before .before))
+
+-- what a turn adds
+few : (c : tie.After-slice-known2 Inv-loop μ-loop)
+    → ones (bitXor (c .before .before .before .before .before .read8 .result) (c .before .before .before .before .array-chunk .result)) ≤ 64
+few c =
+    let d = c .before .before .before .before in
+    few-ones _ _ (d .before .read8 .ensures .1) (omega arith)
+
+add-t : tie.Need-add-t Inv-loop μ-loop
+add-t c = omega (arith, few c, eight (c .before .before .before .before .before .before .before))
+
+add-o : tie.Need-add-o Inv-loop μ-loop
+add-o c = omega (arith, eight (c .before .before .before .before .before .before .before))
+
+loop-less : tie.Need-loop-less Inv-loop μ-loop
+loop-less c = omega (arith, eight (c .before .before .before .before .before .before .before))
+
+loop-again : tie.Need-loop-again Inv-loop μ-loop
+loop-again c =
+    let d = c .before .before .before .before in
+    let r = d .before in
+    let g = r .before .before in
+    let l = g .before .loop in
+    let k = g .before .before .before in
+    let s = k .before in
+    let a = s .args in
+    let T =
+    turned (a .lane) (a .wide) (a .wide / 8) (64 / a .wide) (even-array (a .lane) (a .wide) (s .pre .0)) (a .unsigned) (a .subtract) (a .za .now) (a .at) (a .z .now)
+    (a .x) (a .wide / 8) (a .y) (a .wide / 8) (a .bytes) (λ j. k .slice-known .given j .fits) (s .pre .1 .0 .0) (s .pre .1 .0 .1 .0)
+    (l .o) (l .t) (r .read8 .result) (d .array-chunk .result) (a .x + l .o) (a .y + l .o) (l .za) _
+    (l .inv .1) (g .loop-test .taken) (l .inv .2) (l .inv .3)
+    (array-place (a .lane) (a .wide) (s .pre .0) (a .x) (l .o) (l .inv .1)) (array-place (a .lane) (a .wide) (s .pre .0) (a .y) (l .o) (l .inv .1))
+    (r .read8 .ensures .0) (d .array-chunk .ensures) (r .read8 .ensures .1) (omega arith) (c .before .before .put8 .ensures) in
+    (omega (arith, eight g), omega arith, T .upto, T .bits, omega (arith, few c), T .long)
+
+same-length : tie.Need-same-length Inv-loop μ-loop
+same-length c = search needs
+
+returns : tie.Need-returns Inv-loop μ-loop
+returns c =
+    let l = c .before .loop in
+    let k = c .before .before .before in
+    let s = k .before in
+    let a = s .args in
+    whole (a .lane) (a .wide) (a .wide / 8) (64 / a .wide) (even-array (a .lane) (a .wide) (s .pre .0)) (a .unsigned) (a .subtract) (a .za .now) (a .at) (a .z .now)
+    (a .x) (a .wide / 8) (a .y) (a .wide / 8) (a .bytes) (λ j. k .slice-known .given j .fits) (s .pre .1 .0 .0) (s .pre .1 .0 .1 .0)
+    (l .o) (l .t) (l .za) (l .inv .1) (l .inv .0) (c .loop-test .left) (l .inv .2) (l .inv .3) (l .inv .4)
+
+pub renew-spec : {M : Type 1} → statement M
+renew-spec =
+    tie.close
+    (tie.spec
+    Inv-loop
+    μ-loop
+    loop-holds
+    add-read8
+    read8-requires
+    add-array-chunk
+    add-array-chunk-2
+    array-chunk-requires
+    add-put8
+    put8-requires
+    add-t
+    add-o
+    loop-less
+    loop-again
+    same-length
+    returns)

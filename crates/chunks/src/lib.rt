@@ -1,0 +1,209 @@
+ghost use mathlib.Core.Path.{_≡_};
+ghost use mathlib.Core.Bool.{true};
+ghost use mathlib.Core.Logic.{_⊎_};
+ghost use Prim.Native.Nat.{_+_, _-_, _*_, _/_, _%_, _^_, _<_, _≤_};
+ghost use lib.ListN.{length};
+ghost use Rattle.elements.specs.Elements.{elementAt};
+ghost use Rattle.elements.specs.Size.{IsLane};
+ghost use Rattle.lanes.specs.Lane.{laneStep};
+ghost use Rattle.lanes.specs.Widths.{widths};
+ghost use Rattle.bits.specs.Replace.{Replaced};
+ghost use Rattle.chunks.specs.Chunk.{chunk, strideBytes, Reach, OfArray};
+
+// An element of `wide` bits after a step, of the old one and of the lanes at bytes x and y.
+fn element(
+    lane: usize,
+    wide: usize,
+    unsigned: bool,
+    subtract: bool,
+    old: u64,
+    z: &[u8],
+    x: usize,
+    y: usize,
+) -> u64
+    requires { ⌜ IsLane lane × (widths lane wide ≡ true) ⌝ }
+    requires { ⌜ old < 2 ^ wide ⌝ }
+    requires { ⌜ (x + lane / 8 ≤ length (now z)) × (y + lane / 8 ≤ length (now z)) ⌝ }
+    ensures { λ r. ⌜ (r ≡ laneStep lane wide unsigned subtract old (elementAt (lane / 8) x (now (z .entry))) (elementAt (lane / 8) y (now (z .entry)))) × (r < 2 ^ wide) ⌝ }
+{
+    let a = elements::lane_at(z, x, lane);
+    let b = elements::lane_at(z, y, lane);
+    lanes::lane_step(lane, wide, unsigned, subtract, old, a, b)
+}
+
+// Eight bytes of two elements. All that the sources hold is read before anything is written, so that the compiler may do it side by side.
+fn two(
+    lane: usize,
+    unsigned: bool,
+    subtract: bool,
+    old: u64,
+    z: &[u8],
+    x: usize,
+    dx: usize,
+    y: usize,
+    dy: usize,
+) -> u64
+    requires { ⌜ IsLane lane × (widths lane 32 ≡ true) ⌝ }
+    requires { ⌜ Reach lane 2 (now z) x dx × Reach lane 2 (now z) y dy ⌝ }
+    ensures { λ r. ⌜ r ≡ chunk lane 32 unsigned subtract old (now (z .entry)) x dx y dy ⌝ }
+{
+    let a = element(lane, 32, unsigned, subtract, old % 4294967296, z, x, y);
+    let b = element(
+        lane,
+        32,
+        unsigned,
+        subtract,
+        old / 4294967296,
+        z,
+        x + dx,
+        y + dy,
+    );
+    a + b * 4294967296
+}
+
+// Eight bytes of four elements, whose lanes have 8 bits and lie side by side in the first source.
+fn four(unsigned: bool, subtract: bool, old: u64, z: &[u8], x: usize, y: usize, dy: usize) -> u64
+    requires { ⌜ Reach 8 4 (now z) x 1 × Reach 8 4 (now z) y dy ⌝ }
+    ensures { λ r. ⌜ r ≡ chunk 8 16 unsigned subtract old (now (z .entry)) x 1 y dy ⌝ }
+{
+    let a = element(8, 16, unsigned, subtract, old % 65536, z, x, y);
+    let b = element(
+        8,
+        16,
+        unsigned,
+        subtract,
+        old / 65536 % 65536,
+        z,
+        x + 1,
+        y + dy,
+    );
+    let c = element(
+        8,
+        16,
+        unsigned,
+        subtract,
+        old / 4294967296 % 65536,
+        z,
+        x + 2,
+        y + 2 * dy,
+    );
+    let d = element(
+        8,
+        16,
+        unsigned,
+        subtract,
+        old / 281474976710656,
+        z,
+        x + 3,
+        y + 3 * dy,
+    );
+    a + b * 65536 + c * 4294967296 + d * 281474976710656
+}
+
+// Eight bytes of the low half of a register, whose elements have twice the lane's bits. The lanes of the first source lie side by side.
+fn half_chunk(
+    lane: usize,
+    unsigned: bool,
+    subtract: bool,
+    old: u64,
+    z: &[u8],
+    x: usize,
+    y: usize,
+    dy: usize,
+) -> u64
+    requires { ⌜ IsLane lane ⌝ }
+    requires { ⌜ Reach lane (32 / lane) (now z) x (lane / 8) × Reach lane (32 / lane) (now z) y dy ⌝ }
+    ensures { λ r. ⌜ r ≡ chunk lane (2 * lane) unsigned subtract old (now (z .entry)) x (lane / 8) y dy ⌝ }
+{
+    if lane == 8 {
+        return four(unsigned, subtract, old, z, x, y, dy);
+    }
+    if lane == 16 {
+        return two(16, unsigned, subtract, old, z, x, 2, y, dy);
+    }
+    element(32, 64, unsigned, subtract, old, z, x, y)
+}
+
+// Eight bytes of a vector of ZA. A source has for each element as many bytes as the element has.
+fn array_chunk(
+    lane: usize,
+    wide: usize,
+    unsigned: bool,
+    subtract: bool,
+    old: u64,
+    z: &[u8],
+    x: usize,
+    y: usize,
+) -> u64
+    requires { ⌜ OfArray lane wide ⌝ }
+    requires { ⌜ Reach lane (64 / wide) (now z) x (wide / 8) × Reach lane (64 / wide) (now z) y (wide / 8) ⌝ }
+    ensures { λ r. ⌜ r ≡ chunk lane wide unsigned subtract old (now (z .entry)) x (wide / 8) y (wide / 8) ⌝ }
+{
+    if wide == 64 {
+        return element(16, 64, unsigned, subtract, old, z, x, y);
+    }
+    if lane == 8 {
+        return two(8, unsigned, subtract, old, z, x, 4, y, 4);
+    }
+    two(16, unsigned, subtract, old, z, x, 4, y, 4)
+}
+
+// A, B: the 16 bytes of z from `at` on become new. Element e, of twice the lane's bits, takes the product of the lanes number e from byte x on and
+// number e·by from byte y on. All is read before the first byte is written, since the destination may be a source. Answers how many bits changed.
+pub fn renew_half(
+    lane: usize,
+    unsigned: bool,
+    subtract: bool,
+    z: &mut [u8],
+    at: usize,
+    x: usize,
+    y: usize,
+    by: usize,
+) -> u32
+    requires { ⌜ IsLane lane ⌝ }
+    requires { ⌜ (at + 16 ≤ length (now z)) × (x + 8 ≤ length (now z)) ⌝ }
+    requires { ⌜ Reach lane (64 / lane) (now z) y (by * (lane / 8)) ⌝ }
+    ensures { λ t. ⌜ Replaced at t (strideBytes lane (2 * lane) unsigned subtract (now (z .entry)) at (now (z .entry)) x (lane / 8) y (by * (lane / 8)) 16)
+        (now (z .entry)) (now (z .exit)) ⌝ }
+{
+    let dy = by * (lane / 8);
+    let old = elements::read8(z, at);
+    let old_high = elements::read8(z, at + 8);
+    let new = half_chunk(lane, unsigned, subtract, old, z, x, y, dy);
+    let new_high = half_chunk(lane, unsigned, subtract, old_high, z, x + 4, y + 4 * by, dy);
+    elements::put8(z, at, new);
+    elements::put8(z, at + 8, new_high);
+    u64::count_ones(old ^ new) + u64::count_ones(old_high ^ new_high)
+}
+
+// D, E: `bytes` bytes of za from `at` on become new. Element e, of `wide` bits, takes the product of the lanes at the same distance from bytes x and y
+// of z as it has from `at`. It goes by eight bytes, and reads and counts them where it writes them. Answers how many bits changed.
+pub fn renew(
+    lane: usize,
+    wide: usize,
+    unsigned: bool,
+    subtract: bool,
+    za: &mut [u8],
+    at: usize,
+    z: &[u8],
+    x: usize,
+    y: usize,
+    bytes: usize,
+) -> u32
+    requires { ⌜ OfArray lane wide ⌝ }
+    requires { ⌜ (at + bytes ≤ length (now za)) × ((bytes % 8 ≡ 0) × (bytes ≤ 65536)) ⌝ }
+    requires { ⌜ (x + bytes + lane / 8 ≤ length (now z) + wide / 8) × (y + bytes + lane / 8 ≤ length (now z) + wide / 8) ⌝ }
+    ensures { λ t. ⌜ Replaced at t (strideBytes lane wide unsigned subtract (now (za .entry)) at (now (z .entry)) x (wide / 8) y (wide / 8) bytes)
+        (now (za .entry)) (now (za .exit)) ⌝ }
+{
+    let mut t: u32 = 0;
+    let mut o: usize = 0;
+    while o < bytes {
+        let old = elements::read8(za, at + o);
+        let new = array_chunk(lane, wide, unsigned, subtract, old, z, x + o, y + o);
+        elements::put8(za, at + o, new);
+        t += u64::count_ones(old ^ new);
+        o += 8;
+    }
+    t
+}
