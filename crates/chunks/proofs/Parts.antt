@@ -1,4 +1,4 @@
--- A chunk of one, two or four elements, from the elements. Assumes nothing.
+-- A chunk of one or two elements, from the elements. Assumes nothing.
 use mathlib.Core.Path.{_≡_, sym, ap, _∙_}
 use mathlib.Core.Logic.{⊎-elim}
 use mathlib.Core.Bool.{Bool}
@@ -31,20 +31,6 @@ module _ (lane : ℕ) (u s : Bool) (old : ℕ) (z : List ℕ) (x dx y dy : ℕ) 
       rw (
         ← part-is lane 32 u s old z x dx y dy 0 _ x y a (omega arith) (omega arith) (omega arith) ea,
         ← part-is lane 32 u s old z x dx y dy 1 _ (x + dx) (y + dy) b (omega arith) (omega arith) (omega arith) eb,
-      )
-      (omega arith)
-
-  pub four-is : (a b c d x1 x2 x3 y1 y2 y3 : ℕ) → x1 ≡ x + 1 * dx → x2 ≡ x + 2 * dx → x3 ≡ x + 3 * dx → y1 ≡ y + 1 * dy → y2 ≡ y + 2 * dy → y3 ≡ y + 3 * dy
-      → Element lane 16 u s z (old % 65536) x y a → Element lane 16 u s z (old / 65536 % 65536) x1 y1 b
-      → Element lane 16 u s z (old / 4294967296 % 65536) x2 y2 c → Element lane 16 u s z (old / 281474976710656) x3 y3 d
-      → a + b * 65536 + c * 4294967296 + d * 281474976710656 ≡ chunk lane 16 u s old z x dx y dy
-  unfolding chunk joined
-  four-is a b c d x1 x2 x3 y1 y2 y3 e1 e2 e3 f1 f2 f3 ea eb ec ed =
-      rw (
-        ← part-is lane 16 u s old z x dx y dy 0 _ x y a (omega arith) (omega arith) (omega arith) ea,
-        ← part-is lane 16 u s old z x dx y dy 1 _ x1 y1 b (omega arith) e1 f1 eb,
-        ← part-is lane 16 u s old z x dx y dy 2 _ x2 y2 c (omega arith) e2 f2 ec,
-        ← part-is lane 16 u s old z x dx y dy 3 _ x3 y3 d (omega arith) e3 f3 ed,
       )
       (omega arith)
 

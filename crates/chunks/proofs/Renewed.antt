@@ -13,12 +13,13 @@ use lib.Count.{ones}
 use Rattle.elements.specs.Elements.{elementAt, element, putAt}
 use Rattle.elements.specs.Size.{IsLane}
 use Rattle.elements.proofs.Elements.{Bytes, elementAt-same, elementAt-put-after}
-use Rattle.elements.proofs.Vectors.{written, written-after, Bytes-vector}
+use Rattle.elements.proofs.Vectors.{written, written-turn, written-after, written-end, Bytes-vector}
+use Rattle.lanes.specs.Lane.{laneStep}
 use Rattle.bits.specs.Bits.{toggled}
 use Rattle.bits.specs.Replace.{Replaced}
 use Rattle.bits.proofs.Bits.{toggled-same}
 use Rattle.bits.proofs.Put.{Upto, Turned, few-ones, turn, all}
-use Rattle.chunks.specs.Chunk.{strideBytes, chunk, OfArray}
+use Rattle.chunks.specs.Chunk.{strideStep, strideBytes, chunk, OfArray}
 use Rattle.chunks.proofs.Strides.{Even, even-16, even-32, even-64, chunk-at, bytes-are, bytes-long}
 
 module _ (lane wide w per : ℕ) (ev : Even wide w per) (u s : Bool) (old : List ℕ) (at : ℕ) (z : List ℕ) (x dx y dy bytes : ℕ)
@@ -84,6 +85,27 @@ module _ (lane wide w per : ℕ) (ev : Even wide w per) (u s : Bool) (z : List �
       let few = few-ones before after lb la in
       let few′ = few-ones before′ after′ lb′ la′ in
       rw zero-add at (whole lane wide w per ev u s z at z x dx y dy 16 by fit refl 16 _ z2 refl (omega arith) (omega arith) (R .upto) (R .bits) (omega arith))
+
+-- ---- elements of 16 bits
+
+module _ (u s : Bool) (z : List ℕ) (at x y dy : ℕ) where
+  abbrev Own : ℕ → ℕ
+  Own = strideStep 8 16 u s z at z x 1 y dy
+
+  -- a turn, from what its calls ensure
+  pub own-put : (e a px py o r : ℕ) (new out out′ : List ℕ) → a ≡ at + e * 2 → px ≡ x + e * 1 → py ≡ y + e * dy → o ≡ 0 + e * 2
+      → r ≡ laneStep 8 16 u s (elementAt 2 a z) (elementAt 1 px z) (elementAt 1 py z)
+      → out ≡ written Own 2 0 e new → out′ ≡ putAt 2 o r out → out′ ≡ written Own 2 0 (e + 1) new
+  unfolding strideStep
+  own-put e a px py o r new out out′ ea ex ey eo er ew ep = written-turn Own 2 0 e o r new out out′ eo (rw (← ea, ← ex, ← ey) er) ew ep
+
+  -- eight are the 16 bytes
+  pub all-put : (e : ℕ) (new out : List ℕ) → Bytes z → e ≤ 8 → 8 ≤ e → length new ≡ 16 → out ≡ written Own 2 0 e new → out ≡ strideBytes 8 16 u s z at z x 1 y dy 16
+  all-put e new out by l m long ew =
+      written-end Own 2 e 8 new out l m long ew ∙ sym (bytes-are 8 16 2 4 even-16 u s z at z x 1 y dy by 2 16 refl)
+
+  pub eight-long : Bytes z → length (strideBytes 8 16 u s z at z x 1 y dy 16) ≡ 16
+  eight-long by = bytes-long 8 16 2 4 even-16 u s z at z x 1 y dy by 2 16 refl
 
 -- ---- the lanes of words that write ZA
 

@@ -61,46 +61,7 @@ fn two(
     a + b * 4294967296
 }
 
-// Eight bytes of four elements, whose lanes have 8 bits and lie side by side in the first source.
-fn four(unsigned: bool, subtract: bool, old: u64, z: &[u8], x: usize, y: usize, dy: usize) -> u64
-    requires { ⌜ Reach 8 4 (now z) x 1 × Reach 8 4 (now z) y dy ⌝ }
-    ensures { λ r. ⌜ r ≡ chunk 8 16 unsigned subtract old (now (z .entry)) x 1 y dy ⌝ }
-{
-    let a = element(8, 16, unsigned, subtract, old % 65536, z, x, y);
-    let b = element(
-        8,
-        16,
-        unsigned,
-        subtract,
-        old / 65536 % 65536,
-        z,
-        x + 1,
-        y + dy,
-    );
-    let c = element(
-        8,
-        16,
-        unsigned,
-        subtract,
-        old / 4294967296 % 65536,
-        z,
-        x + 2,
-        y + 2 * dy,
-    );
-    let d = element(
-        8,
-        16,
-        unsigned,
-        subtract,
-        old / 281474976710656,
-        z,
-        x + 3,
-        y + 3 * dy,
-    );
-    a + b * 65536 + c * 4294967296 + d * 281474976710656
-}
-
-// Eight bytes of the low half of a register, whose elements have twice the lane's bits. The lanes of the first source lie side by side.
+// Eight bytes of the low half of a register, whose elements have twice the lane's 16 or 32 bits. The lanes of the first source lie side by side.
 fn half_chunk(
     lane: usize,
     unsigned: bool,
@@ -111,13 +72,10 @@ fn half_chunk(
     y: usize,
     dy: usize,
 ) -> u64
-    requires { ⌜ IsLane lane ⌝ }
+    requires { ⌜ (lane ≡ 16) ⊎ (lane ≡ 32) ⌝ }
     requires { ⌜ Reach lane (32 / lane) (now z) x (lane / 8) × Reach lane (32 / lane) (now z) y dy ⌝ }
     ensures { λ r. ⌜ r ≡ chunk lane (2 * lane) unsigned subtract old (now (z .entry)) x (lane / 8) y dy ⌝ }
 {
-    if lane == 8 {
-        return four(unsigned, subtract, old, z, x, y, dy);
-    }
     if lane == 16 {
         return two(16, unsigned, subtract, old, z, x, 2, y, dy);
     }
@@ -148,6 +106,83 @@ fn array_chunk(
     two(16, unsigned, subtract, old, z, x, 4, y, 4)
 }
 
+// An element of 16 bits after a step, where it stands.
+fn element_16(unsigned: bool, subtract: bool, z: &[u8], at: usize, x: usize, y: usize) -> u64
+    requires { ⌜ (at + 2 ≤ length (now z)) × ((x + 1 ≤ length (now z)) × (y + 1 ≤ length (now z))) ⌝ }
+    ensures { λ r. ⌜ r ≡ laneStep 8 16 unsigned subtract (elementAt 2 at (now (z .entry))) (elementAt 1 x (now (z .entry))) (elementAt 1 y (now (z .entry))) ⌝ }
+{
+    let old = elements::lane_at(z, at, 16);
+    element(8, 16, unsigned, subtract, old, z, x, y)
+}
+
+// The eight elements of 16 bits from `at` on after a step, aside: nothing is read after it is written, and the compiler may do all eight at once.
+fn eight(
+    unsigned: bool,
+    subtract: bool,
+    z: &[u8],
+    at: usize,
+    x: usize,
+    y: usize,
+    by: usize,
+    new: &mut [u8],
+)
+    requires { ⌜ length (now new) ≡ 16 ⌝ }
+    requires { ⌜ (at + 16 ≤ length (now z)) × ((x + 8 ≤ length (now z)) × (y + 7 * by + 1 ≤ length (now z))) ⌝ }
+    ensures { λ _. ⌜ now (new .exit) ≡ strideBytes 8 16 unsigned subtract (now (z .entry)) at (now (z .entry)) x 1 y by 16 ⌝ }
+{
+    let mut e: usize = 0;
+    while e < 8 {
+        let v = element_16(unsigned, subtract, z, at + 2 * e, x + e, y + e * by);
+        elements::put2(new, 2 * e, v);
+        e += 1;
+    }
+}
+
+// Lanes of 8 bits: the 16 bytes from `at` on become new. Answers how many bits changed.
+fn renew_eight(
+    unsigned: bool,
+    subtract: bool,
+    z: &mut [u8],
+    at: usize,
+    x: usize,
+    y: usize,
+    by: usize,
+) -> u32
+    requires { ⌜ (at + 16 ≤ length (now z)) × ((x + 8 ≤ length (now z)) × (y + 7 * by + 1 ≤ length (now z))) ⌝ }
+    ensures { λ t. ⌜ Replaced at t (strideBytes 8 16 unsigned subtract (now (z .entry)) at (now (z .entry)) x 1 y by 16) (now (z .entry)) (now (z .exit)) ⌝ }
+{
+    let mut new = [0u8; 16];
+    eight(unsigned, subtract, z, at, x, y, by, &mut new);
+    bits::replace(z, at, &new)
+}
+
+// Lanes of 16 and 32 bits: the 16 bytes from `at` on become new. Answers how many bits changed.
+fn renew_wider(
+    lane: usize,
+    unsigned: bool,
+    subtract: bool,
+    z: &mut [u8],
+    at: usize,
+    x: usize,
+    y: usize,
+    by: usize,
+) -> u32
+    requires { ⌜ (lane ≡ 16) ⊎ (lane ≡ 32) ⌝ }
+    requires { ⌜ (at + 16 ≤ length (now z)) × (x + 8 ≤ length (now z)) ⌝ }
+    requires { ⌜ Reach lane (64 / lane) (now z) y (by * (lane / 8)) ⌝ }
+    ensures { λ t. ⌜ Replaced at t (strideBytes lane (2 * lane) unsigned subtract (now (z .entry)) at (now (z .entry)) x (lane / 8) y (by * (lane / 8)) 16)
+        (now (z .entry)) (now (z .exit)) ⌝ }
+{
+    let dy = by * (lane / 8);
+    let old = elements::read8(z, at);
+    let old_high = elements::read8(z, at + 8);
+    let new = half_chunk(lane, unsigned, subtract, old, z, x, y, dy);
+    let new_high = half_chunk(lane, unsigned, subtract, old_high, z, x + 4, y + 4 * by, dy);
+    elements::put8(z, at, new);
+    elements::put8(z, at + 8, new_high);
+    u64::count_ones(old ^ new) + u64::count_ones(old_high ^ new_high)
+}
+
 // A, B: the 16 bytes of z from `at` on become new. Element e, of twice the lane's bits, takes the product of the lanes number e from byte x on and
 // number e·by from byte y on. All is read before the first byte is written, since the destination may be a source. Answers how many bits changed.
 pub fn renew_half(
@@ -166,14 +201,10 @@ pub fn renew_half(
     ensures { λ t. ⌜ Replaced at t (strideBytes lane (2 * lane) unsigned subtract (now (z .entry)) at (now (z .entry)) x (lane / 8) y (by * (lane / 8)) 16)
         (now (z .entry)) (now (z .exit)) ⌝ }
 {
-    let dy = by * (lane / 8);
-    let old = elements::read8(z, at);
-    let old_high = elements::read8(z, at + 8);
-    let new = half_chunk(lane, unsigned, subtract, old, z, x, y, dy);
-    let new_high = half_chunk(lane, unsigned, subtract, old_high, z, x + 4, y + 4 * by, dy);
-    elements::put8(z, at, new);
-    elements::put8(z, at + 8, new_high);
-    u64::count_ones(old ^ new) + u64::count_ones(old_high ^ new_high)
+    if lane == 8 {
+        return renew_eight(unsigned, subtract, z, at, x, y, by);
+    }
+    renew_wider(lane, unsigned, subtract, z, at, x, y, by)
 }
 
 // D, E: `bytes` bytes of za from `at` on become new. Element e, of `wide` bits, takes the product of the lanes at the same distance from bytes x and y

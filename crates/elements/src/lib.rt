@@ -98,7 +98,8 @@ fn put1(s: &mut [u8], at: usize, v: u64)
     s[at] = low(v);
 }
 
-fn put2(s: &mut [u8], at: usize, v: u64)
+// Two bytes become the low ones of v.
+pub fn put2(s: &mut [u8], at: usize, v: u64)
     requires { ⌜ at + 2 ≤ length (now s) ⌝ }
     ensures { λ r. ⌜ now (s .exit) ≡ putAt 2 at v (now (s .entry)) ⌝ }
 {

@@ -1,0 +1,100 @@
+-- `chunks::renew_wider` meets its contract. Assumes nothing.
+use mathlib.Core.Logic.{inr}
+use Prim.Native.Nat.{_*_, _/_}
+use native.Mathlib.Omega.{arith}
+use lib.ListN.{length}
+use Rattle.bits.proofs.Put.{few-ones}
+use Rattle.chunks.proofs.Renewed.{both-turns, even-half, HalfPlaces, half-places}
+use borrow.Author.Needs.{needs}
+use Rattle.chunks.proofs.renew_wider.Statement.{statement}
+use Rattle.chunks.proofs.renew_wider.Tie as tie
+
+-- where both chunks have their lanes
+places : (s : tie.Start) → HalfPlaces (s .args .lane) (length (s .args .z .now)) (s .args .x) (s .args .y) (s .args .by)
+places s = half-places (s .args .lane) (inr (s .pre .0)) _ (s .args .x) (s .args .y) (s .args .by) (s .pre .1 .0 .1) (s .pre .1 .1)
+
+mul-dy : tie.Need-mul-dy
+mul-dy c = omega (arith, places (c .before) .step)
+
+read8-requires : tie.Need-read8-requires
+read8-requires c κs = search needs
+
+add-read8 : tie.Need-add-read8
+add-read8 c = search needs
+
+read8-requires-2 : tie.Need-read8-requires-2
+read8-requires-2 c κs = search needs
+
+half-chunk-requires : tie.Need-half-chunk-requires
+half-chunk-requires c κs =
+    let s = c .before .before .before .before .before .before in
+    (s .pre .0, (places s .first, places s .second))
+
+add-half-chunk : tie.Need-add-half-chunk
+add-half-chunk c = search needs
+
+mul-half-chunk : tie.Need-mul-half-chunk
+mul-half-chunk c = omega (arith, places (c .before .before .before .before .before .before .before .before) .second-high)
+
+add-half-chunk-2 : tie.Need-add-half-chunk-2
+add-half-chunk-2 c = omega (arith, places (c .before .before .before .before .before .before .before .before) .second-high)
+
+half-chunk-requires-2 : tie.Need-half-chunk-requires-2
+half-chunk-requires-2 c κs =
+    let s = c .before .before .before .before .before .before .before .before in
+    (s .pre .0, (places s .first-high, places s .second-high))
+
+put8-requires : tie.Need-put8-requires
+put8-requires c κs = search needs
+
+add-put8 : tie.Need-add-put8
+add-put8 c = search needs
+
+put8-requires-2 : tie.Need-put8-requires-2
+put8-requires-2 c κs = search needs
+
+add-result : tie.Need-add-result
+add-result c =
+    let h = c .before .before .before .before .before .before .before .before in
+    let r = h .before .before .before .before in
+    omega (arith, few-ones _ (h .before .before .half-chunk .result) (r .before .before .read8 .ensures .1) (omega arith), few-ones _ (h .half-chunk2 .result) (r .read82 .ensures .1) (omega arith))
+
+same-length : tie.Need-same-length
+same-length c = search needs
+
+returns : tie.Need-returns
+returns c =
+    let p = c .before .before .before .before .before .before in
+    let h = p .before .before in
+    let g = h .before .before in
+    let r = g .before .before in
+    let q = r .before .before in
+    let k = q .before .before in
+    let s = k .before in
+    let a = s .args in
+    both-turns (a .lane) (2 * a .lane) (2 * a .lane / 8) (64 / (2 * a .lane)) (even-half (a .lane) (inr (s .pre .0))) (a .unsigned) (a .subtract) (a .z .now) (a .at)
+    (a .x) (a .lane / 8) (a .y) (a .by * (a .lane / 8)) (λ j. k .slice-known .given j .fits) (s .pre .1 .0 .0)
+    (q .read8 .result) (g .half-chunk .result) (r .read82 .result) (h .half-chunk2 .result) _ _ _ _ (places s .place) (places s .place-second)
+    (q .read8 .ensures .0) (r .read82 .ensures .0) (g .half-chunk .ensures) (h .half-chunk2 .ensures)
+    (q .read8 .ensures .1) (omega arith) (r .read82 .ensures .1) (omega arith)
+    (p .put8 .ensures) (c .before .before .put82 .ensures)
+
+pub renew-wider-spec : {M : Type 1} → statement M
+renew-wider-spec =
+    tie.close
+    (tie.spec
+    mul-dy
+    read8-requires
+    add-read8
+    read8-requires-2
+    half-chunk-requires
+    add-half-chunk
+    mul-half-chunk
+    add-half-chunk-2
+    half-chunk-requires-2
+    put8-requires
+    add-put8
+    put8-requires-2
+    add-result
+    same-length
+    returns)
