@@ -32,6 +32,11 @@ pub za-facts : (f : Fields) → Ranges f → IntoZa f → ((f .group ≡ 2) ⊎ 
 za-facts f g (inl e) = let o : OfFamily LongLong f = subst (λ (x : Family). OfFamily x f) e (g .of-family) in (o .0, inl (ap perSource e))
 za-facts f g (inr e) = let o : OfFamily Long f = subst (λ (x : Family). OfFamily x f) e (g .of-family) in (o .0, inr (ap perSource e))
 
+-- k, by its number
+pub two-or-four-vectors : (f : Fields) → Ranges f → IntoZa f → (k : ℕ) → k ≡ perSource (f .family) → (k ≡ 2) ⊎ (k ≡ 4)
+two-or-four-vectors f g (inl e) k ek = inr (ek ∙ ap perSource e)
+two-or-four-vectors f g (inr e) k ek = inl (ek ∙ ap perSource e)
+
 -- rows of a multiple of 4 vectors; rounding down to a multiple of k keeps k vectors below the row's end
 over-numbers : (w group k x : ℕ) → VectorLength w → (group ≡ 2) ⊎ (group ≡ 4) → (k ≡ 4) ⊎ (k ≡ 2)
     → Grid w group (w / group) k (x % (w / group) - x % (w / group) % k) × ((x % (w / group) - x % (w / group) % k) % k ≡ 0)

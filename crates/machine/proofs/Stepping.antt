@@ -5,10 +5,9 @@ use native.Mathlib.Omega.{arith}
 use mathlib.Core.Path.{_≡_, refl, sym, ap, _∙_, subst}
 use mathlib.Core.Logic.{_⊎_, inl, inr}
 use mathlib.Core.List.{List}
-use lib.ListN.{length}
 use Rattle.settings.specs.Valid.{vectorBytes, arrayBytes}
 use Rattle.settings.specs.declared.Settings.{Settings}
-use Rattle.settings.proofs.Lengths.{vector-length, same-length}
+use Rattle.settings.proofs.Lengths.{vector-length, vector-at-most, same-length}
 use Rattle.words.specs.Ranges.{Ranges}
 use Rattle.words.specs.declared.Family.{Family}
 use Rattle.words.specs.declared.Family.the-variants.{ByElement, Vector, Saturating, LongLong, Long}
@@ -20,7 +19,7 @@ use Rattle.recipes.specs.Recipe.{newLength, perSource}
 use Rattle.machine.specs.Step.{zAfter, zaAfter}
 use Rattle.machine.specs.Execute.{Outcome, counted, writtenBits, steppedBy, stepped, Stepped}
 use Rattle.machine.specs.Loop.{made, IntoZa, Sources, Places, Ready}
-use Rattle.machine.proofs.Registers.{new-length, register-is}
+use Rattle.machine.proofs.Registers.{register-is}
 
 -- A, B and C
 abbrev pub IntoZ : Fields → Type 0
@@ -56,21 +55,21 @@ module _ (s : Settings) (f : Fields) (z za : List ℕ) where
   stepped-za (inl e) = rw e
   stepped-za (inr e) = rw e
 
-module _ (s : Settings) (f : Fields) (z za out : List ℕ) (p : Ready s z za) (g : Ranges f) (w : ℕ) (ew : w ≡ vectorBytes s) where
-  pub sources-of : length out ≡ newLength (f .family) w → Sources f w z out
-  sources-of l =
+module _ (s : Settings) (f : Fields) (z za : List ℕ) (p : Ready s z za) (g : Ranges f) (w : ℕ) (ew : w ≡ vectorBytes s) where
+  pub sources-of : Sources f w z
+  sources-of =
       record {
         ranges = g;
         width = rw ew (vector-length s (p .valid));
+        short = rw ew (vector-at-most s (p .valid));
         z-long = rw ew (p .z-long);
-        out-long = l;
       }
 
   -- a vector of ZA is as long as a register
-  pub places-of : length out ≡ newLength (f .family) w → IntoZa f → Places f (arrayBytes s) z za out
-  places-of l i =
+  pub places-of : IntoZa f → Places f (arrayBytes s) z za
+  places-of i =
       record {
-        sources = subst (λ (x : ℕ). Sources f x z out) (ew ∙ sym (same-length s)) (sources-of l);
+        sources = subst (λ (x : ℕ). Sources f x z) (ew ∙ sym (same-length s)) sources-of;
         into = i;
         za-long = p .za-long;
       }
@@ -125,10 +124,6 @@ outcome-is s f t n bytes z za z′ za′ p eb en =
         → _≡_ {A = Outcome} (record { number = k; toggled = t; written = n; z = z; za = za }) o
     same-outcome {o} ek et en ez ea = rw (ek, et, en, ez, ea)
 
--- room for the new bytes in the scratch, and numbers that fit
-module _ (s : Settings) (z za : List ℕ) (p : Ready s z za) (f : Fields) (g : Ranges f) (scratch : List ℕ) (l : vectorBytes s ≤ length scratch) where
-  pub enough-room : (w n : ℕ) → w ≡ vectorBytes s → n ≡ newLength (f .family) w → n ≤ length scratch
-  enough-room w n ew en = rw (en, ew) (omega (arith, new-length (f .family) (vectorBytes s) (vector-length s (p .valid)) .1))
-
-  pub bits-small : (w : ℕ) → w ≡ vectorBytes s → 8 * w ≤ 2048
-  bits-small w e = omega (arith, vector-length s (p .valid) .most)
+-- a register has 2,048 bits at most
+pub bits-small : (s : Settings) (z za : List ℕ) → Ready s z za → (w : ℕ) → w ≡ vectorBytes s → 8 * w ≤ 2048
+bits-small s z za p w e = omega (arith, vector-length s (p .valid) .most)

@@ -3,7 +3,7 @@ use Prim.Native.Nat.{ℕ, suc, _+_, _*_, _/_, _%_, _≤_, _<_}
 use native.Mathlib.Nat.{add-mul, one-mul, mod-lt, mul-le-mul-right, div-lt-iff-lt-mul}
 use native.Mathlib.Numerals.{add-one}
 use native.Mathlib.Omega.{arith}
-use mathlib.Core.Path.{_≡_, sym, ap, ap₂, _∙_}
+use mathlib.Core.Path.{_≡_, sym, ap, ap₂, _∙_, subst}
 use mathlib.Core.Logic.{_⊎_, inl, inr}
 use mathlib.Core.List.{List}
 use lib.Bits.{differ}
@@ -23,7 +23,7 @@ use Rattle.machine.specs.Loop.{made, Grid, place, fresh, Places}
 use Rattle.machine.proofs.Grid.{place-lt, place-distinct}
 use Rattle.machine.proofs.Array.{za-facts}
 
-module _ {f : Fields} {w : ℕ} {z za₀ out : List ℕ} (p : Places f w z za₀ out) {stride k first : ℕ} (g : Grid w (f .group) stride k first) where
+module _ {f : Fields} {w : ℕ} {z za₀ : List ℕ} (p : Places f w z za₀) {stride k first : ℕ} (g : Grid w (f .group) stride k first) where
   -- 16 vectors at most
   pub few-vectors : k ≡ perSource (f .family) → f .group * k ≤ 16
   few-vectors e = by (za-facts f (p .sources .ranges) (p .into))
@@ -34,12 +34,11 @@ module _ {f : Fields} {w : ℕ} {z za₀ out : List ℕ} (p : Places f w z za₀
       by (inr a, inl b) = rw (a, e, b) (omega arith)
       by (inr a, inr b) = rw (a, e, b) (omega arith)
 
-  -- r and i of vector q
-  pub row-lt : (q : ℕ) → q < f .group * k → q / k < f .group
-  row-lt q h = div-lt-iff-lt-mul (g .some) .1 h
-
-  pub part-lt : (q : ℕ) → q % k < k
-  part-lt q = mod-lt q (g .some)
+  -- vector q, by its r and i
+  pub row-lt : k ≡ perSource (f .family) → (q r i : ℕ) → q < f .group * k → r ≡ q / k → i ≡ q % k
+      → (first + r * stride + i < w) × (r < f .group) × (i < perSource (f .family))
+  unfolding place
+  row-lt e q r i h er ei = rw (er, ei) (place-lt g q h, div-lt-iff-lt-mul (g .some) .1 h, subst (λ (n : ℕ). q % k < n) e (mod-lt q (g .some)))
 
   abbrev at : ℕ → ℕ
   at = place first stride k
@@ -67,32 +66,35 @@ module _ {f : Fields} {w : ℕ} {z za₀ out : List ℕ} (p : Places f w z za₀
     pub bits : t + d ≡ toggled za₀ za′
     pub few : d ≤ 8 * w
 
-  pub turn : (q t d v : ℕ) (za za′ : List ℕ) → q < f .group * k → za ≡ replaced at new w q za₀ → t ≡ toggled za₀ za → v ≡ at q
-      → Replaced (v * w) d (made f (q % k) w w v za (f .first + q / k) (f .second + q / k) z) za za′
+  turn-at : (q t d : ℕ) (za za′ : List ℕ) → q < f .group * k → za ≡ replaced at new w q za₀ → t ≡ toggled za₀ za
+      → Replaced (at q * w) d (made f (q % k) w w (at q) za (f .first + q / k) (f .second + q / k) z) za za′
       → Turned q t d za′
   unfolding fresh replaced
-  turn q t d v za za′ h e et ev r =
-      let old : vectorAt w v za ≡ vectorAt w (at q) za₀ = ap₂ (λ (x : ℕ) (s : List ℕ). vectorAt w x s) ev e ∙ not-yet q h in
+  turn-at q t d za za′ h e et r =
+      let old : vectorAt w (at q) za ≡ vectorAt w (at q) za₀ = ap (vectorAt w (at q)) e ∙ not-yet q h in
       let here : za′ ≡ splice (at q * w) (new q) (replaced at new w q za₀) =
       r .after
-      ∙ ap (λ (o : List ℕ). splice (v * w) (newBytes (recipeOf (f .family) f (q % k)) w o (vectorAt w (f .first + q / k) z) (vectorAt w (f .second + q / k) z)) za) old
-      ∙ ap₂ (λ (x : ℕ) (s : List ℕ). splice (x * w) (new q) s) ev e in
+      ∙ ap (λ (o : List ℕ). splice (at q * w) (newBytes (recipeOf (f .family) f (q % k)) w o (vectorAt w (f .first + q / k) z) (vectorAt w (f .second + q / k) z)) za) old
+      ∙ ap (λ (s : List ℕ). splice (at q * w) (new q) s) e in
       record {
         after = here ∙ ap (λ (n : ℕ). replaced at new w n za₀) (sym (add-one q));
         bits =
             ap₂ _+_ (et ∙ ap (toggled za₀) e) (r .bits ∙ ap₂ toggled e here)
             ∙ sym (ap (toggled za₀) here ∙ bytes-replaced differ differ-unmoved at new w w za₀ q (placed-to (suc q) h) (λ i j hi hj. place-distinct g i j (omega arith) (omega arith)));
-        few = omega (arith, r .few, length-newBytes (recipeOf (f .family) f (q % k)) w (vectorAt w v za) (vectorAt w (f .first + q / k) z) (vectorAt w (f .second + q / k) z) (omega (arith, p .sources .width .whole)));
+        few = omega (arith, r .few, length-newBytes (recipeOf (f .family) f (q % k)) w (vectorAt w (at q) za) (vectorAt w (f .first + q / k) z) (vectorAt w (f .second + q / k) z) (omega (arith, p .sources .width .whole)));
       }
 
+  -- of the r and i that the code has
+  pub turn : (q t d r i : ℕ) (za za′ : List ℕ) → q < f .group * k → za ≡ replaced at new w q za₀ → t ≡ toggled za₀ za → r ≡ q / k → i ≡ q % k
+      → Replaced ((first + r * stride + i) * w) d (made f i w w (first + r * stride + i) za (f .first + r) (f .second + r) z) za za′
+      → Turned q t d za′
+  unfolding place
+  turn q t d r i za za′ h e et er ei =
+      rw (er, ei) (turn-at q t d za za′ h e et)
+
 -- the places stay
-pub again : {f : Fields} {w : ℕ} {z za za₀ out out₀ : List ℕ} → Places f w z za₀ out₀ → length za ≡ length za₀ → length out ≡ length out₀ → Places f w z za out
-again p ea eo =
-    record {
-      sources = record { ranges = p .sources .ranges; width = p .sources .width; z-long = p .sources .z-long; out-long = eo ∙ p .sources .out-long };
-      into = p .into;
-      za-long = ea ∙ p .za-long;
-    }
+pub again : {f : Fields} {w : ℕ} {z za za₀ : List ℕ} → Places f w z za₀ → length za ≡ length za₀ → Places f w z za
+again p e = record { sources = p .sources; into = p .into; za-long = e ∙ p .za-long }
 
 -- the count so far, and that it stays small
 pub count-next : (w q n t d : ℕ) → w ≤ 256 → n ≤ 16 → q < n → t ≤ q * (8 * w) → d ≤ 8 * w → (t + d ≤ (q + 1) * (8 * w)) × (t + d ≤ 32768)

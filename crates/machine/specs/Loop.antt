@@ -9,10 +9,10 @@ use Rattle.settings.specs.Lengths.{VectorLength}
 use Rattle.settings.specs.Valid.{validSettings, vectorBytes, arrayBytes}
 use Rattle.settings.specs.declared.Settings.{Settings}
 use Rattle.words.specs.Ranges.{Ranges}
-use Rattle.words.specs.declared.Family.the-variants.{LongLong, Long}
+use Rattle.words.specs.declared.Family.the-variants.{ByElement, Vector, LongLong, Long}
 use Rattle.words.specs.declared.Fields.{Fields}
 use Rattle.elements.specs.Files.{vectorAt}
-use Rattle.recipes.specs.Recipe.{recipeOf, newLength}
+use Rattle.recipes.specs.Recipe.{recipeOf}
 use Rattle.recipes.specs.Element.{newBytes}
 
 -- w vectors are `group` rows of `stride`; in each row, k of them from `first` on
@@ -34,20 +34,24 @@ unfoldable pub fresh : Fields → ℕ → ℕ → ℕ → ℕ → List ℕ → L
 unfolding place
 fresh f w first stride k z za q = made f (q % k) w w (place first stride k q) za (f .first + q / k) (f .second + q / k) z
 
+-- A and B
+abbrev pub IntoV : Fields → Type 0
+IntoV f = (f .family ≡ ByElement) ⊎ (f .family ≡ Vector)
+
 -- D and E
 abbrev pub IntoZa : Fields → Type 0
 IntoZa f = (f .family ≡ LongLong) ⊎ (f .family ≡ Long)
 
--- a word's fields, Z, and room for the new bytes of a vector
-pub record Sources (f : Fields) (w : ℕ) (z out : List ℕ) : Type 0 where
+-- a word's fields, and Z; the code builds a vector in 64 bytes
+pub record Sources (f : Fields) (w : ℕ) (z : List ℕ) : Type 0 where
   pub ranges : Ranges f
   pub width : VectorLength w
+  pub short : w ≤ 64
   pub z-long : length z ≡ 32 * w
-  pub out-long : length out ≡ newLength (f .family) w
 
 -- and ZA
-pub record Places (f : Fields) (w : ℕ) (z za out : List ℕ) : Type 0 where
-  pub sources : Sources f w z out
+pub record Places (f : Fields) (w : ℕ) (z za : List ℕ) : Type 0 where
+  pub sources : Sources f w z
   pub into : IntoZa f
   pub za-long : length za ≡ w * w
 

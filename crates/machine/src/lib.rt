@@ -1,7 +1,7 @@
 ghost use mathlib.Core.Path.{_≡_};
+ghost use mathlib.Core.Logic.{_⊎_};
 ghost use mathlib.Core.Bool.{true};
 ghost use Prim.Native.Nat.{_+_, _-_, _*_, _/_, _%_, _≤_, _<_};
-ghost use lib.ListN.{length};
 ghost use Rattle.settings.specs.Valid.{validSettings, vectorBytes, arrayBytes};
 ghost use Rattle.elements.specs.Files.{replaced};
 ghost use Rattle.bits.specs.Bits.{toggled};
@@ -9,9 +9,10 @@ ghost use Rattle.bits.specs.Replace.{Replaced};
 ghost use Rattle.recipes.specs.Recipe.{newLength, perSource};
 ghost use Rattle.machine.specs.Modes.{permits};
 ghost use Rattle.machine.specs.Step.{zaAfter};
-ghost use Rattle.machine.specs.Loop.{made, Grid, place, fresh, Sources, Places, Ready};
+ghost use Rattle.machine.specs.Loop.{made, Grid, place, fresh, IntoV, Sources, Places, Ready};
 ghost use Rattle.machine.specs.Execute.{executedSays, writtenBits, stepped, Stepped, executeFields, executeDecoded, rightLengths, ExecutePromise};
 ghost use Rattle.machine.specs.declared.Executed.the-variants.{Done};
+ghost use Rattle.words.specs.declared.Family.the-variants.{Saturating};
 ghost use Rattle.words.specs.Ranges.{Ranges};
 ghost use Rattle.words.specs.Decode.{decodeEnabled};
 use settings::Features;
@@ -34,14 +35,33 @@ pub enum Executed {
     Refused(Refusal),
 }
 
-// A, B, C: the low bytes of the destination become new; registers have w bytes, and `out` is room for the new ones. Answers how many bits
-// changed.
-fn step_register(fields: Fields, w: usize, z: &mut [u8], out: &mut [u8]) -> u32
-    requires { ⌜ Sources fields w (now z) (now out) ⌝ }
+// A, B: the low 16 bytes of the destination become new; registers have w bytes. Answers how many bits changed.
+fn step_half(fields: Fields, w: usize, z: &mut [u8]) -> u32
+    requires { ⌜ Sources fields w (now z) ⌝ }
+    requires { ⌜ IntoV fields ⌝ }
     ensures { λ t. ⌜ Replaced (fields .destination * w) t
         (made fields 0 (newLength (fields .family) w) w (fields .destination) (now (z .entry)) (fields .first) (fields .second) (now (z .entry)))
         (now (z .entry)) (now (z .exit)) ⌝ }
 {
+    let mut scratch = [0u8; 16];
+    let recipe = recipes::recipe_of(fields, 0);
+    let at = fields.destination as usize * w;
+    let n = fields.first as usize * w;
+    let m = fields.second as usize * w;
+    recipes::build(recipe, z, at, z, n, m, &mut scratch);
+    bits::replace(z, at, &scratch)
+}
+
+// C: the destination becomes new. Answers how many bits changed.
+fn step_saturating(fields: Fields, w: usize, z: &mut [u8]) -> u32
+    requires { ⌜ Sources fields w (now z) ⌝ }
+    requires { ⌜ fields .family ≡ Saturating ⌝ }
+    ensures { λ t. ⌜ Replaced (fields .destination * w) t
+        (made fields 0 (newLength (fields .family) w) w (fields .destination) (now (z .entry)) (fields .first) (fields .second) (now (z .entry)))
+        (now (z .entry)) (now (z .exit)) ⌝ }
+{
+    let mut scratch = [0u8; 64];
+    let out = &mut scratch[..w];
     let recipe = recipes::recipe_of(fields, 0);
     let at = fields.destination as usize * w;
     let n = fields.first as usize * w;
@@ -59,20 +79,43 @@ fn step_vector(
     i: usize,
     z: &[u8],
     za: &mut [u8],
-    out: &mut [u8],
 ) -> u32
-    requires { ⌜ Places fields w (now z) (now za) (now out) ⌝ }
+    requires { ⌜ Places fields w (now z) (now za) ⌝ }
     requires { ⌜ (v < w) × (r < fields .group) × (i < perSource (fields .family)) ⌝ }
     ensures { λ t. ⌜ Replaced (v * w) t
         (made fields i w w v (now (za .entry)) (fields .first + r) (fields .second + r) (now (z .entry)))
         (now (za .entry)) (now (za .exit)) ⌝ }
 {
+    let mut scratch = [0u8; 64];
+    let out = &mut scratch[..w];
     let recipe = recipes::recipe_of(fields, i);
     let at = v * w;
     let n = (fields.first as usize + r) * w;
     let m = (fields.second as usize + r) * w;
     recipes::build(recipe, za, at, z, n, m, out);
     bits::replace(za, at, out)
+}
+
+// q / k. k is 2 or 4, and a division by a numeral is a shift.
+fn over(q: usize, k: usize) -> usize
+    requires { ⌜ (k ≡ 2) ⊎ (k ≡ 4) ⌝ }
+    ensures { λ r. ⌜ r ≡ q / k ⌝ }
+{
+    if k == 4 {
+        return q / 4;
+    }
+    q / 2
+}
+
+// q % k, likewise.
+fn past(q: usize, k: usize) -> usize
+    requires { ⌜ (k ≡ 2) ⊎ (k ≡ 4) ⌝ }
+    ensures { λ r. ⌜ r ≡ q % k ⌝ }
+{
+    if k == 4 {
+        return q % 4;
+    }
+    q % 2
 }
 
 // D, E: the vectors first + r·stride + i of ZA become new, for r below the group and i below k. Answers how many bits changed.
@@ -84,9 +127,8 @@ fn step_vectors(
     k: usize,
     z: &[u8],
     za: &mut [u8],
-    out: &mut [u8],
 ) -> u32
-    requires { ⌜ Places fields w (now z) (now za) (now out) ⌝ }
+    requires { ⌜ Places fields w (now z) (now za) ⌝ }
     requires { ⌜ Grid w (fields .group) stride k first × (k ≡ perSource (fields .family)) ⌝ }
     ensures { λ t. ⌜ (now (za .exit) ≡ replaced (place first stride k) (fresh fields w first stride k (now (z .entry)) (now (za .entry))) w (fields .group * k) (now (za .entry))) × (t ≡ toggled (now (za .entry)) (now (za .exit))) ⌝ }
 {
@@ -94,33 +136,26 @@ fn step_vectors(
     let mut t: u32 = 0;
     let mut q: usize = 0;
     while q < count {
-        let r = q / k;
-        let i = q % k;
-        t += step_vector(fields, w, first + r * stride + i, r, i, z, za, out);
+        let r = over(q, k);
+        let i = past(q, k);
+        t += step_vector(fields, w, first + r * stride + i, r, i, z, za);
         q += 1;
     }
     t
 }
 
 // D, E, with k vectors for a source register: ZA after the step. Answers how many bits changed.
-fn step_array(
-    settings: Settings,
-    fields: Fields,
-    k: usize,
-    z: &[u8],
-    za: &mut [u8],
-    out: &mut [u8],
-) -> u32
-    requires { ⌜ Places fields (arrayBytes settings) (now z) (now za) (now out) ⌝ }
+fn step_array(settings: Settings, fields: Fields, k: usize, z: &[u8], za: &mut [u8]) -> u32
+    requires { ⌜ Places fields (arrayBytes settings) (now z) (now za) ⌝ }
     requires { ⌜ k ≡ perSource (fields .family) ⌝ }
     ensures { λ t. ⌜ (now (za .exit) ≡ zaAfter settings fields (now (z .entry)) (now (za .entry))) × (t ≡ toggled (now (za .entry)) (now (za .exit))) ⌝ }
 {
     let w = settings.array_bytes() as usize;
-    let stride = w / fields.group as usize;
+    let stride = over(w, fields.group as usize);
     let number = settings.select_register(fields.select) as usize;
     let selected = (number + fields.offset as usize) % stride;
-    let first = selected - selected % k;
-    step_vectors(fields, w, first, stride, k, z, za, out)
+    let first = selected - past(selected, k);
+    step_vectors(fields, w, first, stride, k, z, za)
 }
 
 // A, B need SM off. C needs SM on, or SVE2. D, E need SM and ZA on.
@@ -145,19 +180,6 @@ pub fn right_lengths(settings: Settings, z: usize, za: usize) -> bool
     (z == 32 * register) & (za == vector * vector)
 }
 
-// The bytes of a written vector that are new.
-fn new_length(family: Family, w: usize) -> usize
-    ensures { λ r. ⌜ r ≡ newLength family w ⌝ }
-{
-    match family {
-        Family::ByElement => 16,
-        Family::Vector => 16,
-        Family::Saturating => w,
-        Family::LongLong => w,
-        Family::Long => w,
-    }
-}
-
 fn written_bits(vl: u32, group: u32, family: Family) -> u32
     requires { ⌜ (vl ≤ 2048) × (group ≤ 32) ⌝ }
     ensures { λ r. ⌜ r ≡ writtenBits vl group family ⌝ }
@@ -171,48 +193,33 @@ fn written_bits(vl: u32, group: u32, family: Family) -> u32
     }
 }
 
-// The registers after the step. `out` is room for the new bytes of a vector. Answers how many bits changed.
-fn step_files(
-    settings: Settings,
-    fields: Fields,
-    w: usize,
-    z: &mut [u8],
-    za: &mut [u8],
-    out: &mut [u8],
-) -> u32
+// The registers after the step. Answers how many bits changed.
+fn step_files(settings: Settings, fields: Fields, w: usize, z: &mut [u8], za: &mut [u8]) -> u32
     requires { ⌜ Ready settings (now z) (now za) ⌝ }
     requires { ⌜ Ranges fields ⌝ }
-    requires { ⌜ (w ≡ vectorBytes settings) × (length (now out) ≡ newLength (fields .family) w) ⌝ }
+    requires { ⌜ w ≡ vectorBytes settings ⌝ }
     ensures { λ t. ⌜ Stepped settings fields t (now (z .entry)) (now (za .entry)) (now (z .exit)) (now (za .exit)) ⌝ }
 {
     let family = fields.family;
     match family {
-        Family::ByElement => step_register(fields, w, z, out),
-        Family::Vector => step_register(fields, w, z, out),
-        Family::Saturating => step_register(fields, w, z, out),
-        Family::LongLong => step_array(settings, fields, 4, z, za, out),
-        Family::Long => step_array(settings, fields, 2, z, za, out),
+        Family::ByElement => step_half(fields, w, z),
+        Family::Vector => step_half(fields, w, z),
+        Family::Saturating => step_saturating(fields, w, z),
+        Family::LongLong => step_array(settings, fields, 4, z, za),
+        Family::Long => step_array(settings, fields, 2, z, za),
     }
 }
 
-// The step, with its counts. `scratch` is room for the longest vector.
-fn step(
-    settings: Settings,
-    fields: Fields,
-    z: &mut [u8],
-    za: &mut [u8],
-    scratch: &mut [u8],
-) -> Counts
+// The step, with its counts.
+fn step(settings: Settings, fields: Fields, z: &mut [u8], za: &mut [u8]) -> Counts
     requires { ⌜ Ready settings (now z) (now za) ⌝ }
     requires { ⌜ Ranges fields ⌝ }
-    requires { ⌜ vectorBytes settings ≤ length (now scratch) ⌝ }
     ensures { λ c. ⌜ executedSays (Done c) (now (z .exit)) (now (za .exit)) ≡ stepped settings fields (now (z .entry)) (now (za .entry)) ⌝ }
 {
     let bytes = settings.vector_bytes();
     let w = bytes as usize;
     let family = fields.family;
-    let length = new_length(family, w);
-    let toggled = step_files(settings, fields, w, z, za, &mut scratch[..length]);
+    let toggled = step_files(settings, fields, w, z, za);
     let written = written_bits(8 * bytes, fields.group, family);
     Counts {
         toggled: toggled,
@@ -232,8 +239,7 @@ fn execute_fields(settings: Settings, fields: Fields, z: &mut [u8], za: &mut [u8
     if !permitted(features, modes, family) {
         return Executed::Refused(Refusal::WrongMode);
     }
-    let mut scratch = [0u8; 64];
-    Executed::Done(step(settings, fields, z, za, &mut scratch))
+    Executed::Done(step(settings, fields, z, za))
 }
 
 // 3, 4, or the step.

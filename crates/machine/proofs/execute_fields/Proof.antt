@@ -2,7 +2,6 @@
 use mathlib.Core.Path.{sym, _∙_}
 use borrow.Author.Needs.{needs}
 use Rattle.laws.proofs.Tests.{refuted, upheld}
-use Rattle.settings.proofs.Lengths.{vector-at-most}
 use Rattle.machine.proofs.Executing.{not-permitted, is-permitted}
 use Rattle.machine.proofs.execute_fields.Statement.{statement}
 use Rattle.machine.proofs.execute_fields.Tie as tie
@@ -16,13 +15,8 @@ returns c =
     let s = p .before .before .before .before .before in
     not-permitted (s .args .settings) (s .args .z .now) (s .args .za .now) (s .args .fields) (sym (p .permitted .ensures) ∙ refuted _ (c .if1 .taken))
 
-slice-aggregate-step : tie.Need-slice-aggregate-step
-slice-aggregate-step c = search needs
-
 step-requires : tie.Need-step-requires
-step-requires c κs =
-    let s = c .before .before .before .before .before .before .before .before .before in
-    (s .pre .0, (s .pre .1, vector-at-most (s .args .settings) (s .pre .0 .valid)))
+step-requires c κs = let s = c .before .before .before .before .before .before .before .before in (s .pre .0, s .pre .1)
 
 same-length : tie.Need-same-length
 same-length c = search needs
@@ -32,8 +26,8 @@ same-length-2 c = search needs
 
 returns-2 : tie.Need-returns-2
 returns-2 c =
-    let t = c .before .before .before .before .before in
-    let i = t .before .before .before .before in
+    let t = c .before .before .before .before in
+    let i = t .before .before .before in
     let p = i .before in
     let s = p .before .before .before .before .before in
     t .step .ensures ∙ is-permitted (s .args .settings) (s .args .z .now) (s .args .za .now) (s .args .fields) (sym (p .permitted .ensures) ∙ upheld _ (i .if1 .left))
@@ -44,7 +38,6 @@ execute-fields-spec =
     (tie.spec
     permitted-requires
     returns
-    slice-aggregate-step
     step-requires
     same-length
     same-length-2

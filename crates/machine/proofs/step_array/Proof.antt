@@ -1,7 +1,6 @@
 -- `machine::step_array` meets its contract. Assumes nothing.
-use native.Mathlib.Nat.{mod-le}
 use borrow.Author.Needs.{needs}
-use Rattle.machine.proofs.Selected.{select-range, group-pos, stride-pos, some-vectors, ready, after}
+use Rattle.machine.proofs.Selected.{select-range, group-is, vectors-are, stride-pos, first-fits, ready, after}
 use Rattle.machine.proofs.step_array.Statement.{statement}
 use Rattle.machine.proofs.step_array.Tie as tie
 
@@ -11,12 +10,11 @@ array-bytes-requires c κs = search needs
 cast-w : tie.Need-cast-w
 cast-w c = search needs
 
-cast-stride : tie.Need-cast-stride
-cast-stride c = search needs
+cast-over : tie.Need-cast-over
+cast-over c = search needs
 
-div-stride : tie.Need-div-stride
-div-stride c =
-    group-pos (c .before .before .before .before .before .args .settings) (c .before .before .before .before .before .pre .0)
+over-requires : tie.Need-over-requires
+over-requires c κs = let s = c .before .before .before .before in group-is (s .args .settings) (s .pre .0)
 
 select-register-requires : tie.Need-select-register-requires
 select-register-requires c κs =
@@ -35,40 +33,46 @@ add-selected c = search needs
 
 rem-selected : tie.Need-rem-selected
 rem-selected c =
-    let b = c .before .before .before in
-    let s = b .before .before .before .before in
-    stride-pos (s .args .settings) (s .pre .0) (b .array-bytes .result) (c .before .select-register .result) (s .args .k) (b .array-bytes .ensures) (c .before .select-register .ensures) (s .pre .1)
+    let o = c .before .before in
+    let b = o .before .before in
+    let s = b .before .before .before in
+    stride-pos (s .args .settings) (s .pre .0) (b .array-bytes .result) (o .over .result) (b .array-bytes .ensures) (o .over .ensures)
 
-rem-first : tie.Need-rem-first
-rem-first c =
-    let b = c .before .before .before in
-    let s = b .before .before .before .before in
-    some-vectors (s .args .settings) (s .pre .0) (b .array-bytes .result) (c .before .select-register .result) (s .args .k) (b .array-bytes .ensures) (c .before .select-register .ensures) (s .pre .1)
+past-requires : tie.Need-past-requires
+past-requires c κs =
+    let s = c .before .before .before .before .before .before .before in
+    vectors-are (s .args .settings) (s .pre .0) (s .args .k) (s .pre .1)
 
 sub-first : tie.Need-sub-first
-sub-first c = mod-le _ _
+sub-first c =
+    let n = c .before .before in
+    let o = n .before in
+    let b = o .before .before in
+    let s = b .before .before .before in
+    first-fits (s .args .settings) (s .pre .0) (b .array-bytes .result) (o .over .result) (b .array-bytes .ensures) (o .over .ensures) (n .select-register .result) (s .args .k) (c .past .result) (n .select-register .ensures) (s .pre .1) (c .past .ensures)
 
 step-vectors-requires : tie.Need-step-vectors-requires
 step-vectors-requires c κs =
-    let n = c .before .before .before in
-    let b = n .before .before in
-    let s = b .before .before .before .before in
-    let r = ready (s .args .settings) (s .pre .0) (b .array-bytes .result) (n .select-register .result) (s .args .k) (b .array-bytes .ensures) (n .select-register .ensures) (s .pre .1) in
+    let d = c .before in
+    let n = d .before .before in
+    let o = n .before in
+    let b = o .before .before in
+    let s = b .before .before .before in
+    let r = ready (s .args .settings) (s .pre .0) (b .array-bytes .result) (o .over .result) (b .array-bytes .ensures) (o .over .ensures) (n .select-register .result) (s .args .k) (d .past .result) (n .select-register .ensures) (s .pre .1) (d .past .ensures) in
     (r .0, (r .1, r .2))
 
 same-length : tie.Need-same-length
 same-length c = search needs
 
-same-length-2 : tie.Need-same-length-2
-same-length-2 c = search needs
-
 returns : tie.Need-returns
 returns c =
-    let v = c .before .before .before .before in
-    let n = v .before .before .before .before in
-    let b = n .before .before in
-    let s = b .before .before .before .before in
-    (after (s .args .settings) (s .pre .0) (b .array-bytes .result) (n .select-register .result) (s .args .k) (b .array-bytes .ensures) (n .select-register .ensures) (s .pre .1) _ (v .step-vectors .ensures .0), v .step-vectors .ensures .1)
+    let v = c .before .before in
+    let d = v .before .before in
+    let n = d .before .before in
+    let o = n .before in
+    let b = o .before .before in
+    let s = b .before .before .before in
+    (after (s .args .settings) (s .pre .0) (b .array-bytes .result) (o .over .result) (b .array-bytes .ensures) (o .over .ensures) (n .select-register .result) (s .args .k) (d .past .result) (n .select-register .ensures) (s .pre .1) (d .past .ensures) _ (v .step-vectors .ensures .0), v .step-vectors .ensures .1)
 
 pub step-array-spec : {M : Type 1} → statement M
 step-array-spec =
@@ -76,16 +80,15 @@ step-array-spec =
     (tie.spec
     array-bytes-requires
     cast-w
-    cast-stride
-    div-stride
+    cast-over
+    over-requires
     select-register-requires
     cast-number
     cast-selected
     add-selected
     rem-selected
-    rem-first
+    past-requires
     sub-first
     step-vectors-requires
     same-length
-    same-length-2
     returns)

@@ -1,11 +1,19 @@
 -- `machine::step_vector` meets its contract. Assumes nothing.
+use mathlib.Core.Path.{sym, _∙_}
 use Prim.Native.Nat.{_+_}
 use native.Mathlib.Omega.{arith}
+use lib.Seq.{length-take-le}
 use borrow.Author.Needs.{needs}
 use Rattle.elements.proofs.Files.{room}
 use Rattle.machine.proofs.Renewal.{register-small, vector-small, whole-vector, step-places, step-room, step-renewal}
 use Rattle.machine.proofs.step_vector.Statement.{statement}
 use Rattle.machine.proofs.step_vector.Tie as tie
+
+array-borrow-prefix-scratch : tie.Need-array-borrow-prefix-scratch
+array-borrow-prefix-scratch c = c .before .before .pre .0 .sources .short
+
+slice-aggregate-out : tie.Need-slice-aggregate-out
+slice-aggregate-out c = sym (length-take-le _ _ (c .before .before .before .pre .0 .sources .short))
 
 recipe-of-requires : tie.Need-recipe-of-requires
 recipe-of-requires c κs = search needs
@@ -39,47 +47,49 @@ mul-m c =
 
 build-requires : tie.Need-build-requires
 build-requires c κs =
-    let s = c .before .before .before .before .before .before .before .before in
+    let q = c .before .before .before .before in
+    let s = q .before .before .before .before in
     let f = s .args .fields in
     let p = s .pre .0 .sources in
-    step-places p (s .args .i) (c .before .before .before .before .recipe-of .ensures) (s .pre .1 .2) (s .args .v) (f .first + s .args .r) (f .second + s .args .r) (s .args .za .now)
+    step-places p (s .args .i) (q .recipe-of .ensures) (s .pre .1 .2) _ (length-take-le _ _ (p .short) ∙ sym (whole-vector (s .pre .0))) (s .args .v) (f .first + s .args .r) (f .second + s .args .r) (s .args .za .now)
     (room (s .args .v) (s .args .w) (s .args .w) (s .args .za .now) (s .pre .0 .za-long) (s .pre .1 .0))
     (omega (arith, p .ranges .first, s .pre .1 .1)) (omega (arith, p .ranges .second, s .pre .1 .1))
 
 replace-requires : tie.Need-replace-requires
 replace-requires c κs =
     let b = c .before .before .before .before in
-    let s = b .before .before .before .before .before .before .before .before .before in
+    let q = b .before .before .before .before .before in
+    let s = q .before .before .before .before in
     let f = s .args .fields in
     let p = s .pre .0 .sources in
-    let q =
-    step-room p (s .args .i) (b .before .before .before .before .before .recipe-of .ensures) (s .pre .1 .2) (s .args .v) (f .first + s .args .r) (f .second + s .args .r) (s .args .za .now)
+    let h =
+    step-room p (s .args .i) (q .recipe-of .ensures) (s .pre .1 .2) _ (length-take-le _ _ (p .short) ∙ sym (whole-vector (s .pre .0))) (s .args .v) (f .first + s .args .r) (f .second + s .args .r) (s .args .za .now)
     (room (s .args .v) (s .args .w) (s .args .w) (s .args .za .now) (s .pre .0 .za-long) (s .pre .1 .0))
     (omega (arith, p .ranges .first, s .pre .1 .1)) (omega (arith, p .ranges .second, s .pre .1 .1)) (b .build .last .1 .1 .1 .1 .1 .1 .0) (b .build .kept .1 .1 .1 .1 .1 .1 .0) in
-    (q .0, (q .1, q .2))
+    (h .0, (h .1, h .2))
 
 same-length : tie.Need-same-length
 same-length c = search needs
 
-same-length-2 : tie.Need-same-length-2
-same-length-2 c = search needs
-
 returns : tie.Need-returns
 returns c =
-    let b = c .before .before .before .before .before .before .before in
-    let s = b .before .before .before .before .before .before .before .before .before in
+    let v = c .before .before .before in
+    let b = v .before .before .before .before .before in
+    let q = b .before .before .before .before .before in
+    let s = q .before .before .before .before in
     let f = s .args .fields in
     let p = s .pre .0 .sources in
-    let w = s .args .w in
-    step-renewal p (s .args .i) (b .before .before .before .before .before .recipe-of .ensures) (s .pre .1 .2) (s .args .v) (f .first + s .args .r) (f .second + s .args .r) (s .args .za .now)
+    step-renewal p (s .args .i) (q .recipe-of .ensures) (s .pre .1 .2) _ (length-take-le _ _ (p .short) ∙ sym (whole-vector (s .pre .0))) (s .args .v) (f .first + s .args .r) (f .second + s .args .r) (s .args .za .now)
     (room (s .args .v) (s .args .w) (s .args .w) (s .args .za .now) (s .pre .0 .za-long) (s .pre .1 .0))
     (omega (arith, p .ranges .first, s .pre .1 .1)) (omega (arith, p .ranges .second, s .pre .1 .1)) _ (b .build .kept .1 .1 .1 .1 .1 .1 .0)
-    _ (whole-vector (s .pre .0)) _ _ (b .build .ensures) (c .before .before .replace .ensures)
+    _ (whole-vector (s .pre .0)) _ _ (b .build .ensures) (v .replace .ensures)
 
 pub step-vector-spec : {M : Type 1} → statement M
 step-vector-spec =
     tie.close
     (tie.spec
+    array-borrow-prefix-scratch
+    slice-aggregate-out
     recipe-of-requires
     mul-at
     cast-n
@@ -91,5 +101,4 @@ step-vector-spec =
     build-requires
     replace-requires
     same-length
-    same-length-2
     returns)

@@ -1,99 +1,107 @@
 -- `machine::step_vectors` meets its contract. Assumes nothing.
-use mathlib.Core.Path.{_≡_, refl, sym, ap, _∙_, subst}
-use Prim.Native.Nat.{ℕ, _+_, _-_, _*_, _%_, _≤_, _<_}
+use mathlib.Core.Path.{_≡_, refl, sym, ap, _∙_}
+use Prim.Native.Nat.{ℕ, _+_, _-_, _*_, _≤_, _<_}
 use native.Mathlib.Omega.{arith}
 use lib.ListN.{length}
 use borrow.Author.Needs.{needs}
 use Rattle.elements.specs.Files.{replaced}
 use Rattle.bits.specs.Bits.{toggled}
 use Rattle.bits.proofs.Bits.{toggled-same}
+use Rattle.recipes.specs.Recipe.{perSource}
 use Rattle.machine.specs.Loop.{place, fresh}
-use Rattle.machine.proofs.Grid.{place-lt}
-use Rattle.machine.proofs.Vectors.{few-vectors, row-lt, part-lt, Turned, turn, again, count-next}
+use Rattle.machine.proofs.Array.{two-or-four-vectors}
+use Rattle.machine.proofs.Vectors.{few-vectors, row-lt, Turned, turn, again, count-next}
 use Rattle.machine.proofs.step_vectors.Statement.{statement}
 use Rattle.machine.proofs.step_vectors.Tie as tie
 
 abbrev Inv-loop : tie.InvT-loop
-Inv-loop fields w first stride k z za₀ out₀ count t₀ q₀ za out t q =
-    (q ≤ count) × (za ≡ replaced (place first stride k) (fresh fields w first stride k z za₀) w q za₀) × (t ≡ toggled za₀ za) × (t ≤ q * (8 * w)) × (length za ≡ length za₀) × (length out ≡ length out₀)
+Inv-loop fields w first stride k z za₀ count t₀ q₀ za t q =
+    (q ≤ count) × (za ≡ replaced (place first stride k) (fresh fields w first stride k z za₀) w q za₀) × (t ≡ toggled za₀ za) × (t ≤ q * (8 * w)) × (length za ≡ length za₀)
 
 abbrev μ-loop : tie.MeasureT-loop
-μ-loop fields w first stride k z za₀ out₀ count t₀ q₀ za out t q = count - q
+μ-loop fields w first stride k z za₀ count t₀ q₀ za t q = count - q
 
 -- from within a turn back to the function's entry
 abbrev S : tie.In-loop Inv-loop μ-loop → tie.Start Inv-loop μ-loop
-S c = c .before .before .before .before .before .before
+S c = c .before .before .before .before .before
 
 -- the vector of this turn
-here : (c : tie.In-loop Inv-loop μ-loop) → place (S c .args .first) (S c .args .stride) (S c .args .k) (c .before .loop .q) < S c .args .w
-here c = place-lt (S c .pre .1 .0) (c .before .loop .q) (c .loop-test .taken)
+here : (c : tie.After-past Inv-loop μ-loop)
+    → let s = S (c .before .before) in
+    let r = c .before .over .result in
+    let i = c .past .result in
+    (s .args .first + r * s .args .stride + i < s .args .w) × (r < s .args .fields .group) × (i < perSource (s .args .fields .family))
+here c =
+    let t = c .before .before in
+    let s = S t in
+    row-lt (s .pre .0) (s .pre .1 .0) (s .pre .1 .1) (t .before .loop .q) _ _ (t .loop-test .taken) (c .before .over .ensures) (c .past .ensures)
 
 -- what the turn leaves
 turned : (c : tie.After-step-vector Inv-loop μ-loop)
-    → let t = c .before .before .before in
+    → let t = c .before .before .before .before in
     Turned (S t .pre .0) (S t .pre .1 .0) (t .before .loop .q) (t .before .loop .t) (c .step-vector .result) (c .step-vector .last .1 .1 .1 .1 .1 .1 .0)
-unfolding place
 turned c =
-    let t = c .before .before .before in
+    let i = c .before .before in
+    let t = i .before .before in
     let s = S t in
     let l = t .before .loop in
-    turn (s .pre .0) (s .pre .1 .0) (l .q) (l .t) (c .step-vector .result) _ (l .za) _ (t .loop-test .taken) (l .inv .1) (l .inv .2) refl (c .step-vector .ensures)
+    turn (s .pre .0) (s .pre .1 .0) (l .q) (l .t) (c .step-vector .result) _ _ (l .za) _ (t .loop-test .taken) (l .inv .1) (l .inv .2) (i .before .over .ensures) (i .past .ensures) (c .step-vector .ensures)
 
 -- and that the count stays small
 small : (c : tie.After-step-vector Inv-loop μ-loop)
-    → let t = c .before .before .before in
+    → let t = c .before .before .before .before in
     let n = t .before .loop .t + c .step-vector .result in (n ≤ (t .before .loop .q + 1) * (8 * S t .args .w)) × (n ≤ 32768)
 small c =
-    let t = c .before .before .before in
+    let t = c .before .before .before .before in
     let s = S t in
     let l = t .before .loop in
     count-next (s .args .w) (l .q) (s .args .fields .group * s .args .k) (l .t) (c .step-vector .result) (s .pre .0 .sources .width .most)
     (few-vectors (s .pre .0) (s .pre .1 .0) (s .pre .1 .1)) (t .loop-test .taken) (l .inv .3) (turned c .few)
 
 cast-count : tie.Need-cast-count Inv-loop μ-loop
-cast-count c = omega (arith, c .before .before .before .before .pre .0 .sources .ranges .first)
+cast-count c = omega (arith, c .before .before .before .pre .0 .sources .ranges .first)
 
 mul-count : tie.Need-mul-count Inv-loop μ-loop
 mul-count c =
-    let s = c .before .before .before .before in
+    let s = c .before .before .before in
     omega (arith, few-vectors (s .pre .0) (s .pre .1 .0) (s .pre .1 .1))
 
 loop-holds : tie.Need-loop-holds Inv-loop μ-loop
 unfolding replaced
-loop-holds c = (omega arith, refl, sym (toggled-same _), omega arith, refl, refl)
+loop-holds c = (omega arith, refl, sym (toggled-same _), omega arith, refl)
 
-div-r : tie.Need-div-r Inv-loop μ-loop
-div-r c = S c .pre .1 .0 .some
+over-requires : tie.Need-over-requires Inv-loop μ-loop
+over-requires c κs =
+    let s = S c in
+    two-or-four-vectors (s .args .fields) (s .pre .0 .sources .ranges) (s .pre .0 .into) (s .args .k) (s .pre .1 .1)
 
-rem-i : tie.Need-rem-i Inv-loop μ-loop
-rem-i c = S c .pre .1 .0 .some
+past-requires : tie.Need-past-requires Inv-loop μ-loop
+past-requires c κs =
+    let s = S (c .before) in
+    two-or-four-vectors (s .args .fields) (s .pre .0 .sources .ranges) (s .pre .0 .into) (s .args .k) (s .pre .1 .1)
 
 mul-step-vector : tie.Need-mul-step-vector Inv-loop μ-loop
-unfolding place
-mul-step-vector c = omega (arith, here c, S c .pre .0 .sources .width .most)
+mul-step-vector c = omega (arith, here c .0, S (c .before .before) .pre .0 .sources .width .most)
 
 add-step-vector : tie.Need-add-step-vector Inv-loop μ-loop
-unfolding place
-add-step-vector c = omega (arith, here c, S c .pre .0 .sources .width .most)
+add-step-vector c = omega (arith, here c .0, S (c .before .before) .pre .0 .sources .width .most)
 
 add-step-vector-2 : tie.Need-add-step-vector-2 Inv-loop μ-loop
-unfolding place
-add-step-vector-2 c = omega (arith, here c, S c .pre .0 .sources .width .most)
+add-step-vector-2 c = omega (arith, here c .0, S (c .before .before) .pre .0 .sources .width .most)
 
 step-vector-requires : tie.Need-step-vector-requires Inv-loop μ-loop
-unfolding place
 step-vector-requires c κs =
-    let t = c .before .before in
-    let s = S t in
-    let q = t .before .loop .q in
-    (again (s .pre .0) (t .before .loop .inv .4) (t .before .loop .inv .5), (here t, row-lt (s .pre .0) (s .pre .1 .0) q (t .loop-test .taken), subst (λ (n : ℕ). q % s .args .k < n) (s .pre .1 .1) (part-lt (s .pre .0) (s .pre .1 .0) q)))
+    let i = c .before in
+    let t = i .before .before in
+    let h = here i in
+    (again (S t .pre .0) (t .before .loop .inv .4), (h .0, h .1, h .2))
 
 add-t : tie.Need-add-t Inv-loop μ-loop
-add-t c = omega (arith, small (c .before .before .before .before))
+add-t c = omega (arith, small (c .before .before))
 
 add-q : tie.Need-add-q Inv-loop μ-loop
 add-q c =
-    let t = c .before .before .before .before .before .before .before in
+    let t = c .before .before .before .before .before .before in
     omega (arith, few-vectors (S t .pre .0) (S t .pre .1 .0) (S t .pre .1 .1), t .loop-test .taken)
 
 loop-less : tie.Need-loop-less Inv-loop μ-loop
@@ -101,26 +109,17 @@ loop-less c = omega arith
 
 loop-again : tie.Need-loop-again Inv-loop μ-loop
 loop-again c =
-    let v = c .before .before .before .before in
-    let t = v .before .before .before in
-    let T = turned v in (
-      omega (arith, t .loop-test .taken),
-      T .after,
-      T .bits,
-      small v .0,
-      v .step-vector .kept .1 .1 .1 .1 .1 .1 .0 ∙ t .before .loop .inv .4,
-      v .step-vector .kept .1 .1 .1 .1 .1 .1 .1 .0 ∙ t .before .loop .inv .5,
-    )
+    let v = c .before .before in
+    let t = v .before .before .before .before in
+    let T = turned v in
+    (omega (arith, t .loop-test .taken), T .after, T .bits, small v .0, v .step-vector .kept .1 .1 .1 .1 .1 .1 .0 ∙ t .before .loop .inv .4)
 
 same-length : tie.Need-same-length Inv-loop μ-loop
 same-length c = search needs
 
-same-length-2 : tie.Need-same-length-2 Inv-loop μ-loop
-same-length-2 c = search needs
-
 returns : tie.Need-returns Inv-loop μ-loop
 returns c =
-    let s = c .before .before .before .before .before .before in
+    let s = c .before .before .before .before .before in
     let l = c .before .loop in
     let e : l .q ≡ s .args .fields .group * s .args .k = omega (arith, l .inv .0, c .loop-test .left) in
     (l .inv .1 ∙ ap (λ (n : ℕ). replaced (place (s .args .first) (s .args .stride) (s .args .k)) (fresh (s .args .fields) (s .args .w) (s .args .first) (s .args .stride) (s .args .k) (s .args .z .now) (s .args .za .now)) (s .args .w) n (s .args .za .now)) e, l .inv .2)
@@ -134,8 +133,8 @@ step-vectors-spec =
     cast-count
     mul-count
     loop-holds
-    div-r
-    rem-i
+    over-requires
+    past-requires
     mul-step-vector
     add-step-vector
     add-step-vector-2
@@ -145,5 +144,4 @@ step-vectors-spec =
     loop-less
     loop-again
     same-length
-    same-length-2
     returns)
