@@ -2,6 +2,7 @@ pub mod Grid
 pub mod Array
 pub mod Registers
 pub mod Renewal
+pub mod Strides
 pub mod Vectors
 pub mod Selected
 pub mod Stepping

@@ -1,9 +1,10 @@
--- A vector built aside and put into its place. Assumes nothing.
+-- A vector that becomes new in its place; C's is built aside. Assumes nothing.
 use Prim.Native.Nat.{ℕ, _+_, _*_, _%_, _≤_, _<_}
 use native.Mathlib.Nat.{mul-le-mul-right}
 use native.Mathlib.Omega.{arith}
-use mathlib.Core.Path.{_≡_, sym, ap, ap₂, _∙_, subst}
+use mathlib.Core.Path.{_≡_, refl, sym, ap, ap₂, _∙_, subst}
 use mathlib.Core.Logic.{_≢_, _⊎_, inl, inr}
+use mathlib.Core.Bool.{true}
 use mathlib.Core.List.{List}
 use lib.Dec.{lit<}
 use lib.ListN.{length, drop}
@@ -61,54 +62,72 @@ some-group f Long o = two-or-four (o .0)
 pub source-lt : (f : Fields) → Ranges f → (f .first < 32) × (f .second < 32)
 source-lt f g = let h = some-group f (f .family) (g .of-family) in (omega (arith, g .first), omega (arith, g .second))
 
--- a word's fields and Z as the code has them; so many bytes of a vector are new, and `a` is the file that vector v is of
+-- a word's fields and Z as the code has them
 module _ {f : Fields} {w : ℕ} {z : List ℕ} (p : Sources f w z) where
   pub first-source : 0 < perSource (f .family)
   first-source = some-source (f .family)
 
-  module _ {r : Recipe} (i : ℕ) (er : r ≡ recipeOf (f .family) f i) (hi : i < perSource (f .family)) (bytes : ℕ) (eb : bytes ≡ newLength (f .family) w) where
+  -- register x of Z is there
+  pub register-there : (x : ℕ) → x < 32 → x * w + w ≤ length z
+  register-there x h = omega (arith, next x w, room x 32 w z (p .z-long) h)
+
+  -- n bytes of vector v of the file `a` become new: they are made of the registers alone
+  pub renewal : (i : ℕ) → i < perSource (f .family) → (n : ℕ) → newLength (f .family) w ≡ n → (v x y : ℕ) (a new a′ : List ℕ) (t : ℕ)
+      → new ≡ newBytes (recipeOf (f .family) f i) n (drop (v * w) a) (drop (x * w) z) (drop (y * w) z)
+      → Replaced (v * w) t new a a′ → Replaced (v * w) t (made f i n w v a x y z) a a′
+  unfolding vectorAt
+  renewal i hi n en v x y a new a′ t e =
+      let r : Recipe = recipeOf (f .family) f i in
+      let g : Inside r n w = subst (λ (m : ℕ). Inside r m w) en (inside f (p .ranges) w (p .width) i hi) in
+      subst (λ (u : List ℕ). Replaced (v * w) t u a a′) (e ∙ sym (newBytes-within r n (drop (v * w) a) (drop (x * w) z) (drop (y * w) z) w g))
+
+  -- C builds the new register aside, in room for it
+  module _ (c : f .family ≡ Saturating) {r : Recipe} (er : r ≡ recipeOf (f .family) f 0) (bytes : ℕ) (eb : bytes ≡ w) where
+    whole-register : newLength (f .family) w ≡ w
+    whole-register = ap (λ (x : Family). newLength x w) c
+
     within-register : Inside r bytes w
     within-register =
         subst (λ (x : Recipe). Inside x bytes w) (sym er)
-        (subst (λ (n : ℕ). Inside (recipeOf (f .family) f i) n w) (sym eb) (inside f (p .ranges) w (p .width) i hi))
+        (subst (λ (n : ℕ). Inside (recipeOf (f .family) f 0) n w) (whole-register ∙ sym eb) (inside f (p .ranges) w (p .width) 0 first-source))
 
-    module _ (v x y : ℕ) (a : List ℕ) (fit : (v + 1) * w ≤ length a) (hx : x < 32) (hy : y < 32) where
-      -- the elements that the recipe takes are there
-      pub step-places : VectorPlaces r bytes a (v * w) z (x * w) (y * w)
-      step-places =
-          let g = within-register in
-          record {
-            wider = g .wider;
-            whole = g .whole;
-            room = omega (arith, g .room, next v w);
-            first = λ e h. omega (arith, g .first e h, next x w, room x 32 w z (p .z-long) hx);
-            second = λ e h. omega (arith, g .second e h, next y w, room y 32 w z (p .z-long) hy);
-          }
+    pub saturates : r .saturating ≡ true
+    saturates = ap (λ (x : Recipe). x .saturating) er ∙ ap (λ (x : Family). recipeOf x f 0 .saturating) c
 
-      module _ (out : List ℕ) (long : length out ≡ bytes) where
-        pub step-room : (v * w + length out ≤ length a) × (length out % 8 ≡ 0) × (length out ≤ 65536)
-        step-room =
-            let g = within-register in
-            (omega (arith, g .room, next v w), subst (λ (n : ℕ). n % 8 ≡ 0) (sym long) (g .whole), omega (arith, g .room, p .width .most))
+    -- the elements that the recipe takes are there
+    pub step-places : VectorPlaces r bytes z (f .destination * w) z (f .first * w) (f .second * w)
+    step-places =
+        let g = within-register in
+        let l = source-lt f (p .ranges) in
+        record {
+          wider = g .wider;
+          whole = g .whole;
+          room = omega (arith, g .room, register-there (f .destination) (p .ranges .destination));
+          first = λ e h. omega (arith, g .first e h, register-there (f .first) (l .0));
+          second = λ e h. omega (arith, g .second e h, register-there (f .second) (l .1));
+        }
 
-        -- what the loop built is made of the registers alone, and is put into its place
-        pub step-renewal : (n : ℕ) → newLength (f .family) w ≡ n → (a′ : List ℕ) (t : ℕ) → out ≡ newBytes r bytes (drop (v * w) a) (drop (x * w) z) (drop (y * w) z) → Replaced (v * w) t out a a′
-            → Replaced (v * w) t (made f i n w v a x y z) a a′
-        unfolding vectorAt
-        step-renewal n en a′ t e =
-            subst (λ (new : List ℕ). Replaced (v * w) t new a a′)
-            (e
-            ∙ sym (newBytes-within r bytes (drop (v * w) a) (drop (x * w) z) (drop (y * w) z) w within-register)
-            ∙ ap₂ (λ (q : Recipe) (k : ℕ). newBytes q k (vectorAt w v a) (vectorAt w x z) (vectorAt w y z)) er (eb ∙ en))
+    module _ (out : List ℕ) (long : length out ≡ bytes) where
+      pub step-room : (f .destination * w + length out ≤ length z) × (length out % 8 ≡ 0) × (length out ≤ 65536)
+      step-room =
+          let g = within-register in (
+            omega (arith, g .room, register-there (f .destination) (p .ranges .destination)),
+            subst (λ (n : ℕ). n % 8 ≡ 0) (sym long) (g .whole),
+            omega (arith, g .room, p .width .most),
+          )
+
+      -- what the loop built is put into its place
+      pub step-renewal : (z′ : List ℕ) (t : ℕ) → out ≡ newBytes r bytes (drop (f .destination * w) z) (drop (f .first * w) z) (drop (f .second * w) z)
+          → Replaced (f .destination * w) t out z z′
+          → Replaced (f .destination * w) t (made f 0 (newLength (f .family) w) w (f .destination) z (f .first) (f .second) z) z z′
+      step-renewal z′ t e =
+          renewal 0 first-source (newLength (f .family) w) refl (f .destination) (f .first) (f .second) z out z′ t
+          (e ∙ ap₂ (λ (q : Recipe) (n : ℕ). newBytes q n (drop (f .destination * w) z) (drop (f .first * w) z) (drop (f .second * w) z)) er (eb ∙ sym whole-register))
 
 -- A and B write 16 bytes
 pub half-vector : (f : Fields) (w : ℕ) → IntoV f → newLength (f .family) w ≡ 16
 half-vector f w (inl e) = ap (λ (x : Family). newLength x w) e
 half-vector f w (inr e) = ap (λ (x : Family). newLength x w) e
-
--- C writes the whole register
-pub whole-register : (f : Fields) (w : ℕ) → f .family ≡ Saturating → newLength (f .family) w ≡ w
-whole-register f w e = ap (λ (x : Family). newLength x w) e
 
 -- D and E write whole vectors
 pub whole-vector : {f : Fields} {w : ℕ} {z za : List ℕ} → Places f w z za → newLength (f .family) w ≡ w

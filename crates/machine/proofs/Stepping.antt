@@ -61,9 +61,12 @@ module _ (s : Settings) (f : Fields) (z za : List ℕ) (p : Ready s z za) (g : R
       record {
         ranges = g;
         width = rw ew (vector-length s (p .valid));
-        short = rw ew (vector-at-most s (p .valid));
         z-long = rw ew (p .z-long);
       }
+
+  -- 64 bytes have room for a register
+  pub short : w ≤ 64
+  short = rw ew (vector-at-most s (p .valid))
 
   -- a vector of ZA is as long as a register
   pub places-of : IntoZa f → Places f (arrayBytes s) z za

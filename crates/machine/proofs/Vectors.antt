@@ -3,7 +3,7 @@ use Prim.Native.Nat.{ℕ, suc, _+_, _*_, _/_, _%_, _≤_, _<_}
 use native.Mathlib.Nat.{add-mul, one-mul, mod-lt, mul-le-mul-right, div-lt-iff-lt-mul}
 use native.Mathlib.Numerals.{add-one}
 use native.Mathlib.Omega.{arith}
-use mathlib.Core.Path.{_≡_, sym, ap, ap₂, _∙_, subst}
+use mathlib.Core.Path.{_≡_, sym, ap, ap₂, _∙_}
 use mathlib.Core.Logic.{_⊎_, inl, inr}
 use mathlib.Core.List.{List}
 use lib.Bits.{differ}
@@ -35,10 +35,9 @@ module _ {f : Fields} {w : ℕ} {z za₀ : List ℕ} (p : Places f w z za₀) {s
       by (inr a, inr b) = rw (a, e, b) (omega arith)
 
   -- vector q, by its r and i
-  pub row-lt : k ≡ perSource (f .family) → (q r i : ℕ) → q < f .group * k → r ≡ q / k → i ≡ q % k
-      → (first + r * stride + i < w) × (r < f .group) × (i < perSource (f .family))
+  pub row-lt : (q r i : ℕ) → q < f .group * k → r ≡ q / k → i ≡ q % k → (first + r * stride + i < w) × (r < f .group) × (i < k)
   unfolding place
-  row-lt e q r i h er ei = rw (er, ei) (place-lt g q h, div-lt-iff-lt-mul (g .some) .1 h, subst (λ (n : ℕ). q % k < n) e (mod-lt q (g .some)))
+  row-lt q r i h er ei = rw (er, ei) (place-lt g q h, div-lt-iff-lt-mul (g .some) .1 h, mod-lt q (g .some))
 
   abbrev at : ℕ → ℕ
   at = place first stride k
@@ -89,8 +88,7 @@ module _ {f : Fields} {w : ℕ} {z za₀ : List ℕ} (p : Places f w z za₀) {s
       → Replaced ((first + r * stride + i) * w) d (made f i w w (first + r * stride + i) za (f .first + r) (f .second + r) z) za za′
       → Turned q t d za′
   unfolding place
-  turn q t d r i za za′ h e et er ei =
-      rw (er, ei) (turn-at q t d za za′ h e et)
+  turn q t d r i za za′ h e et er ei = rw (er, ei) (turn-at q t d za za′ h e et)
 
 -- the places stay
 pub again : {f : Fields} {w : ℕ} {z za za₀ : List ℕ} → Places f w z za₀ → length za ≡ length za₀ → Places f w z za

@@ -42,11 +42,10 @@ IntoV f = (f .family ≡ ByElement) ⊎ (f .family ≡ Vector)
 abbrev pub IntoZa : Fields → Type 0
 IntoZa f = (f .family ≡ LongLong) ⊎ (f .family ≡ Long)
 
--- a word's fields, and Z; the code builds a vector in 64 bytes
+-- a word's fields, and Z
 pub record Sources (f : Fields) (w : ℕ) (z : List ℕ) : Type 0 where
   pub ranges : Ranges f
   pub width : VectorLength w
-  pub short : w ≤ 64
   pub z-long : length z ≡ 32 * w
 
 -- and ZA

@@ -35,7 +35,8 @@ pub enum Executed {
     Refused(Refusal),
 }
 
-// A, B: the low 16 bytes of the destination become new; registers have w bytes. Answers how many bits changed.
+// A, B: the low 16 bytes of the destination become new; registers have w bytes. In A each element takes the one lane at the index of the second
+// source, and in B its own. Answers how many bits changed.
 fn step_half(fields: Fields, w: usize, z: &mut [u8]) -> u32
     requires { ⌜ Sources fields w (now z) ⌝ }
     requires { ⌜ IntoV fields ⌝ }
@@ -43,19 +44,27 @@ fn step_half(fields: Fields, w: usize, z: &mut [u8]) -> u32
         (made fields 0 (newLength (fields .family) w) w (fields .destination) (now (z .entry)) (fields .first) (fields .second) (now (z .entry)))
         (now (z .entry)) (now (z .exit)) ⌝ }
 {
-    let mut scratch = [0u8; 16];
-    let recipe = recipes::recipe_of(fields, 0);
+    let lane = fields.lane as usize;
+    let part = fields.part as usize * 8;
     let at = fields.destination as usize * w;
-    let n = fields.first as usize * w;
-    let m = fields.second as usize * w;
-    recipes::build(recipe, z, at, z, n, m, &mut scratch);
-    bits::replace(z, at, &scratch)
+    let x = fields.first as usize * w + part;
+    let y = fields.second as usize * w;
+    let unsigned = fields.unsigned;
+    let subtract = fields.subtract;
+    let family = fields.family;
+    match family {
+        Family::ByElement => {
+            let index = fields.index as usize * (lane / 8);
+            chunks::renew_half(lane, unsigned, subtract, z, at, x, y + index, 0)
+        }
+        _ => chunks::renew_half(lane, unsigned, subtract, z, at, x, y + part, 1),
+    }
 }
 
-// C: the destination becomes new. Answers how many bits changed.
+// C: the destination becomes new. It is built aside, in room for the longest register, since it may be a source. Answers how many bits changed.
 fn step_saturating(fields: Fields, w: usize, z: &mut [u8]) -> u32
     requires { ⌜ Sources fields w (now z) ⌝ }
-    requires { ⌜ fields .family ≡ Saturating ⌝ }
+    requires { ⌜ (fields .family ≡ Saturating) × (w ≤ 64) ⌝ }
     ensures { λ t. ⌜ Replaced (fields .destination * w) t
         (made fields 0 (newLength (fields .family) w) w (fields .destination) (now (z .entry)) (fields .first) (fields .second) (now (z .entry)))
         (now (z .entry)) (now (z .exit)) ⌝ }
@@ -70,10 +79,11 @@ fn step_saturating(fields: Fields, w: usize, z: &mut [u8]) -> u32
     bits::replace(z, at, out)
 }
 
-// D, E: vector v of ZA, which is first + r·stride + i, becomes new. Answers how many bits changed.
+// D, E, with k vectors for a source register: vector v of ZA, which is first + r·stride + i, becomes new. Answers how many bits changed.
 fn step_vector(
     fields: Fields,
     w: usize,
+    k: usize,
     v: usize,
     r: usize,
     i: usize,
@@ -81,19 +91,21 @@ fn step_vector(
     za: &mut [u8],
 ) -> u32
     requires { ⌜ Places fields w (now z) (now za) ⌝ }
-    requires { ⌜ (v < w) × (r < fields .group) × (i < perSource (fields .family)) ⌝ }
+    requires { ⌜ k ≡ perSource (fields .family) ⌝ }
+    requires { ⌜ (v < w) × (r < fields .group) × (i < k) ⌝ }
     ensures { λ t. ⌜ Replaced (v * w) t
         (made fields i w w v (now (za .entry)) (fields .first + r) (fields .second + r) (now (z .entry)))
         (now (za .entry)) (now (za .exit)) ⌝ }
 {
-    let mut scratch = [0u8; 64];
-    let out = &mut scratch[..w];
-    let recipe = recipes::recipe_of(fields, i);
+    let lane = fields.lane as usize;
+    let wide = k * lane;
     let at = v * w;
-    let n = (fields.first as usize + r) * w;
-    let m = (fields.second as usize + r) * w;
-    recipes::build(recipe, za, at, z, n, m, out);
-    bits::replace(za, at, out)
+    let from = i * (lane / 8);
+    let x = (fields.first as usize + r) * w + from;
+    let y = (fields.second as usize + r) * w + from;
+    let unsigned = fields.unsigned;
+    let subtract = fields.subtract;
+    chunks::renew(lane, wide, unsigned, subtract, za, at, z, x, y, w)
 }
 
 // q / k. k is 2 or 4, and a division by a numeral is a shift.
@@ -138,7 +150,7 @@ fn step_vectors(
     while q < count {
         let r = over(q, k);
         let i = past(q, k);
-        t += step_vector(fields, w, first + r * stride + i, r, i, z, za);
+        t += step_vector(fields, w, k, first + r * stride + i, r, i, z, za);
         q += 1;
     }
     t

@@ -3,7 +3,7 @@ use mathlib.Core.Path.{sym, ap}
 use mathlib.Core.Logic.{inl, inr}
 use borrow.Author.Needs.{needs}
 use Rattle.recipes.specs.Recipe.{perSource}
-use Rattle.machine.proofs.Stepping.{sources-of, places-of, z-done, za-done}
+use Rattle.machine.proofs.Stepping.{sources-of, short, places-of, z-done, za-done}
 use Rattle.machine.proofs.step_files.Statement.{statement}
 use Rattle.machine.proofs.step_files.Tie as tie
 
@@ -32,7 +32,7 @@ step-saturating-requires : tie.Need-step-saturating-requires
 step-saturating-requires c κs =
     let t = c .before in
     let s = t .before .before .before .before in
-    (sources-of (s .args .settings) (s .args .fields) (s .args .z .now) (s .args .za .now) (s .pre .0) (s .pre .1 .0) (s .args .w) (s .pre .1 .1), t .enum-told3 .given .1)
+    (sources-of (s .args .settings) (s .args .fields) (s .args .z .now) (s .args .za .now) (s .pre .0) (s .pre .1 .0) (s .args .w) (s .pre .1 .1), (t .enum-told3 .given .1, short (s .args .settings) (s .args .fields) (s .args .z .now) (s .args .za .now) (s .pre .0) (s .pre .1 .0) (s .args .w) (s .pre .1 .1)))
 
 enum-told-4 : tie.Need-enum-told-4
 enum-told-4 c = search needs

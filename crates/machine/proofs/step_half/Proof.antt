@@ -1,103 +1,144 @@
--- `machine::step_half` meets its contract. Assumes nothing.
-use mathlib.Core.Path.{refl, sym}
+-- `machine::step_half` meets its contract, in A and in B. Assumes nothing.
+use mathlib.Core.Path.{_≡_}
+use mathlib.Core.Logic.{_⊎_, inl, inr, ⊎-elim}
+use Prim.Native.Nat.{ℕ}
 use native.Mathlib.Omega.{arith}
 use borrow.Author.Needs.{needs}
-use Rattle.elements.proofs.Files.{room}
-use Rattle.machine.proofs.Renewal.{register-small, source-lt, half-vector, first-source, step-places, step-room, step-renewal}
+use Rattle.words.specs.declared.Family.the-variants.{ByElement, Vector}
+use Rattle.machine.proofs.Renewal.{register-small, source-lt}
+use Rattle.machine.proofs.Strides.{index-small, half-places, index-there, pairs-there, by-element, by-pairs}
 use Rattle.machine.proofs.step_half.Statement.{statement}
 use Rattle.machine.proofs.step_half.Tie as tie
 
-recipe-of-requires : tie.Need-recipe-of-requires
-recipe-of-requires c κs = search needs
+-- from the match back to the function's entry
+abbrev S : tie.After-struct-known5 → tie.Start
+S m = m .before .before .before .before .before .before
+
+-- the second arm is B's
+not-first : {tag : ℕ} → (tag ≡ 1) ⊎ ((tag ≡ 2) ⊎ ((tag ≡ 3) ⊎ (tag ≡ 4))) → tag ≡ 0 → ⊥
+not-first (inl a) e = omega arith
+not-first (inr (inl a)) e = omega arith
+not-first (inr (inr (inl a))) e = omega arith
+not-first (inr (inr (inr a))) e = omega arith
+
+is-b : (c : tie.At-match-keys2) → S (c .before) .args .fields .family ≡ Vector
+is-b c =
+    let f = S (c .before) .args .fields in
+    ⊎-elim (λ (e : f .family ≡ ByElement). absurd (not-first (c .match .keys2) (rw e))) (λ (e : f .family ≡ Vector). e) (S (c .before) .pre .1)
+
+cast-lane : tie.Need-cast-lane
+cast-lane c = search needs
+
+cast-part : tie.Need-cast-part
+cast-part c = search needs
+
+mul-part : tie.Need-mul-part
+mul-part c = search needs
 
 cast-at : tie.Need-cast-at
 cast-at c = search needs
 
 mul-at : tie.Need-mul-at
 mul-at c =
-    let s = c .before .before .before in
+    let s = c .before .before .before .before in
     let p = s .pre .0 in
     omega (arith, register-small (p .width) (s .args .fields .destination) (p .ranges .destination))
 
-cast-n : tie.Need-cast-n
-cast-n c = search needs
+cast-x : tie.Need-cast-x
+cast-x c = search needs
 
-mul-n : tie.Need-mul-n
-mul-n c =
-    let s = c .before .before .before .before in
+mul-x : tie.Need-mul-x
+mul-x c =
+    let s = c .before .before .before .before .before in
     let p = s .pre .0 in
     omega (arith, register-small (p .width) (s .args .fields .first) (source-lt (s .args .fields) (p .ranges) .0))
 
-cast-m : tie.Need-cast-m
-cast-m c = search needs
-
-mul-m : tie.Need-mul-m
-mul-m c =
+add-x : tie.Need-add-x
+add-x c =
     let s = c .before .before .before .before .before in
+    let p = s .pre .0 in
+    omega (arith, register-small (p .width) (s .args .fields .first) (source-lt (s .args .fields) (p .ranges) .0), p .ranges .part)
+
+cast-y : tie.Need-cast-y
+cast-y c = search needs
+
+mul-y : tie.Need-mul-y
+mul-y c =
+    let s = S c in
     let p = s .pre .0 in
     omega (arith, register-small (p .width) (s .args .fields .second) (source-lt (s .args .fields) (p .ranges) .1))
 
-slice-aggregate-build : tie.Need-slice-aggregate-build
-slice-aggregate-build c = search needs
+enum-told : tie.Need-enum-told
+enum-told c = search needs
 
-build-requires : tie.Need-build-requires
-build-requires c κs =
-    let r = c .before .before .before .before .before in
-    let s = r .before .before in
+cast-index : tie.Need-cast-index
+cast-index c = search needs
+
+mul-index : tie.Need-mul-index
+mul-index c = let p = S (c .before .before .before) .pre .0 in omega (arith, index-small p)
+
+add-renew-half : tie.Need-add-renew-half
+add-renew-half c =
+    let s = S (c .before .before .before .before) in
     let p = s .pre .0 in
-    let f = s .args .fields in
-    let z = s .args .z .now in
-    let l = source-lt f (p .ranges) in
-    step-places p 0 (r .recipe-of .ensures) (first-source p) 16 (sym (half-vector f (s .args .w) (s .pre .1))) (f .destination) (f .first) (f .second) z
-    (room (f .destination) 32 (s .args .w) z (p .z-long) (p .ranges .destination)) (l .0) (l .1)
+    omega (arith, index-small p, register-small (p .width) (s .args .fields .second) (source-lt (s .args .fields) (p .ranges) .1))
 
-slice-aggregate-replace : tie.Need-slice-aggregate-replace
-slice-aggregate-replace c = search needs
+renew-half-requires : tie.Need-renew-half-requires
+renew-half-requires c κs =
+    let p = S (c .before .before .before .before) .pre .0 in
+    (p .ranges .lane, (half-places p, index-there p))
 
-replace-requires : tie.Need-replace-requires
-replace-requires c κs =
-    let b = c .before .before .before in
-    let r = b .before .before .before .before .before .before in
-    let s = r .before .before in
+add-renew-half-2 : tie.Need-add-renew-half-2
+add-renew-half-2 c =
+    let s = S (c .before .before) in
     let p = s .pre .0 in
-    let f = s .args .fields in
-    let z = s .args .z .now in
-    let l = source-lt f (p .ranges) in
-    let q =
-    step-room p 0 (r .recipe-of .ensures) (first-source p) 16 (sym (half-vector f (s .args .w) (s .pre .1))) (f .destination) (f .first) (f .second) z
-    (room (f .destination) 32 (s .args .w) z (p .z-long) (p .ranges .destination)) (l .0) (l .1) (b .build .last .1 .1 .1 .1 .1 .1 .0) (b .build .kept .1 .1 .1 .1 .1 .1 .0) in
-    (q .0, (q .1, q .2))
+    omega (arith, register-small (p .width) (s .args .fields .second) (source-lt (s .args .fields) (p .ranges) .1), p .ranges .part)
+
+renew-half-requires-2 : tie.Need-renew-half-requires-2
+renew-half-requires-2 c κs =
+    let p = S (c .before .before) .pre .0 in
+    (p .ranges .lane, (half-places p, pairs-there p))
 
 same-length : tie.Need-same-length
 same-length c = search needs
 
 returns : tie.Need-returns
 returns c =
-    let b = c .before .before .before .before .before .before in
-    let r = b .before .before .before .before .before .before in
-    let s = r .before .before in
-    let p = s .pre .0 in
-    let f = s .args .fields in
-    let z = s .args .z .now in
-    let l = source-lt f (p .ranges) in
-    step-renewal p 0 (r .recipe-of .ensures) (first-source p) 16 (sym (half-vector f (s .args .w) (s .pre .1))) (f .destination) (f .first) (f .second) z
-    (room (f .destination) 32 (s .args .w) z (p .z-long) (p .ranges .destination)) (l .0) (l .1) _ (b .build .kept .1 .1 .1 .1 .1 .1 .0)
-    _ refl _ _ (b .build .ensures) (c .before .before .replace .ensures)
+    let n = c .before .before in
+    let t = n .before .before .before in
+    by-element (S (t .before .before) .pre .0) (t .enum-told .given .1) _ _ (n .renew-half .ensures)
+
+same-length-2 : tie.Need-same-length-2
+same-length-2 c = search needs
+
+returns-2 : tie.Need-returns-2
+returns-2 c =
+    let n = c .before .before in
+    let k = n .before .before in
+    by-pairs (S (k .before) .pre .0) (is-b k) _ _ (n .renew-half2 .ensures)
 
 pub step-half-spec : {M : Type 1} → statement M
 step-half-spec =
     tie.close
     (tie.spec
-    recipe-of-requires
+    cast-lane
+    cast-part
+    mul-part
     cast-at
     mul-at
-    cast-n
-    mul-n
-    cast-m
-    mul-m
-    slice-aggregate-build
-    build-requires
-    slice-aggregate-replace
-    replace-requires
+    cast-x
+    mul-x
+    add-x
+    cast-y
+    mul-y
+    enum-told
+    cast-index
+    mul-index
+    add-renew-half
+    renew-half-requires
+    add-renew-half-2
+    renew-half-requires-2
     same-length
-    returns)
+    returns
+    same-length-2
+    returns-2)

@@ -1,18 +1,21 @@
 -- `machine::step_saturating` meets its contract. Assumes nothing.
-use mathlib.Core.Path.{refl, sym, _∙_}
+use mathlib.Core.Path.{sym}
 use native.Mathlib.Omega.{arith}
 use lib.Seq.{length-take-le}
 use borrow.Author.Needs.{needs}
-use Rattle.elements.proofs.Files.{room}
-use Rattle.machine.proofs.Renewal.{register-small, source-lt, whole-register, first-source, step-places, step-room, step-renewal}
+use Rattle.machine.proofs.Renewal.{register-small, source-lt, saturates, step-places, step-room, step-renewal}
 use Rattle.machine.proofs.step_saturating.Statement.{statement}
 use Rattle.machine.proofs.step_saturating.Tie as tie
+
+-- from where the recipe is known back to the function's entry
+abbrev S : tie.After-recipe-of → tie.Start
+S r = r .before .before .before
 
 array-borrow-prefix-scratch : tie.Need-array-borrow-prefix-scratch
 array-borrow-prefix-scratch c = search needs
 
 slice-aggregate-out : tie.Need-slice-aggregate-out
-slice-aggregate-out c = sym (length-take-le _ _ (c .before .before .pre .0 .short))
+slice-aggregate-out c = sym (length-take-le _ _ (c .before .before .pre .1 .1))
 
 recipe-of-requires : tie.Need-recipe-of-requires
 recipe-of-requires c κs = search needs
@@ -22,7 +25,7 @@ cast-at c = search needs
 
 mul-at : tie.Need-mul-at
 mul-at c =
-    let s = c .before .before .before .before in
+    let s = S (c .before) in
     let p = s .pre .0 in
     omega (arith, register-small (p .width) (s .args .fields .destination) (p .ranges .destination))
 
@@ -31,7 +34,7 @@ cast-n c = search needs
 
 mul-n : tie.Need-mul-n
 mul-n c =
-    let s = c .before .before .before .before .before in
+    let s = S (c .before .before) in
     let p = s .pre .0 in
     omega (arith, register-small (p .width) (s .args .fields .first) (source-lt (s .args .fields) (p .ranges) .0))
 
@@ -40,33 +43,23 @@ cast-m c = search needs
 
 mul-m : tie.Need-mul-m
 mul-m c =
-    let s = c .before .before .before .before .before .before in
+    let s = S (c .before .before .before) in
     let p = s .pre .0 in
     omega (arith, register-small (p .width) (s .args .fields .second) (source-lt (s .args .fields) (p .ranges) .1))
 
 build-requires : tie.Need-build-requires
 build-requires c κs =
     let r = c .before .before .before .before .before in
-    let s = r .before .before .before in
-    let p = s .pre .0 in
-    let f = s .args .fields in
-    let z = s .args .z .now in
-    let l = source-lt f (p .ranges) in
-    step-places p 0 (r .recipe-of .ensures) (first-source p) _ (length-take-le _ _ (p .short) ∙ sym (whole-register f (s .args .w) (s .pre .1))) (f .destination) (f .first) (f .second) z
-    (room (f .destination) 32 (s .args .w) z (p .z-long) (p .ranges .destination)) (l .0) (l .1)
+    let p = S r .pre .0 in
+    let long = length-take-le _ _ (S r .pre .1 .1) in
+    (step-places p (S r .pre .1 .0) (r .recipe-of .ensures) _ long, saturates p (S r .pre .1 .0) (r .recipe-of .ensures) _ long)
 
 replace-requires : tie.Need-replace-requires
 replace-requires c κs =
     let b = c .before .before .before .before in
     let r = b .before .before .before .before .before .before in
-    let s = r .before .before .before in
-    let p = s .pre .0 in
-    let f = s .args .fields in
-    let z = s .args .z .now in
-    let l = source-lt f (p .ranges) in
-    let q =
-    step-room p 0 (r .recipe-of .ensures) (first-source p) _ (length-take-le _ _ (p .short) ∙ sym (whole-register f (s .args .w) (s .pre .1))) (f .destination) (f .first) (f .second) z
-    (room (f .destination) 32 (s .args .w) z (p .z-long) (p .ranges .destination)) (l .0) (l .1) (b .build .last .1 .1 .1 .1 .1 .1 .0) (b .build .kept .1 .1 .1 .1 .1 .1 .0) in
+    let p = S r .pre .0 in
+    let q = step-room p (S r .pre .1 .0) (r .recipe-of .ensures) _ (length-take-le _ _ (S r .pre .1 .1)) (b .build .last .1 .1 .1 .1 .1 .1 .0) (b .build .kept .1 .1 .1 .1 .1 .1 .0) in
     (q .0, (q .1, q .2))
 
 same-length : tie.Need-same-length
@@ -77,14 +70,8 @@ returns c =
     let v = c .before .before .before in
     let b = v .before .before .before .before .before in
     let r = b .before .before .before .before .before .before in
-    let s = r .before .before .before in
-    let p = s .pre .0 in
-    let f = s .args .fields in
-    let z = s .args .z .now in
-    let l = source-lt f (p .ranges) in
-    step-renewal p 0 (r .recipe-of .ensures) (first-source p) _ (length-take-le _ _ (p .short) ∙ sym (whole-register f (s .args .w) (s .pre .1))) (f .destination) (f .first) (f .second) z
-    (room (f .destination) 32 (s .args .w) z (p .z-long) (p .ranges .destination)) (l .0) (l .1) _ (b .build .kept .1 .1 .1 .1 .1 .1 .0)
-    _ refl _ _ (b .build .ensures) (v .replace .ensures)
+    let p = S r .pre .0 in
+    step-renewal p (S r .pre .1 .0) (r .recipe-of .ensures) _ (length-take-le _ _ (S r .pre .1 .1)) _ (b .build .kept .1 .1 .1 .1 .1 .1 .0) _ _ (b .build .ensures) (v .replace .ensures)
 
 pub step-saturating-spec : {M : Type 1} → statement M
 step-saturating-spec =

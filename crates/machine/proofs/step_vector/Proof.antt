@@ -1,104 +1,96 @@
 -- `machine::step_vector` meets its contract. Assumes nothing.
-use mathlib.Core.Path.{sym, _∙_}
-use Prim.Native.Nat.{_+_}
+use Prim.Native.Nat.{_+_, _*_, _/_, _≤_}
 use native.Mathlib.Omega.{arith}
-use lib.Seq.{length-take-le}
 use borrow.Author.Needs.{needs}
-use Rattle.elements.proofs.Files.{room}
-use Rattle.machine.proofs.Renewal.{register-small, vector-small, whole-vector, step-places, step-room, step-renewal}
+use Rattle.machine.proofs.Renewal.{register-small, vector-small}
+use Rattle.machine.proofs.Strides.{of-array, sources-lt, numbers-small, lanes-there, vector-there, array-renewal}
 use Rattle.machine.proofs.step_vector.Statement.{statement}
 use Rattle.machine.proofs.step_vector.Tie as tie
 
-array-borrow-prefix-scratch : tie.Need-array-borrow-prefix-scratch
-array-borrow-prefix-scratch c = c .before .before .pre .0 .sources .short
+-- the numbers that the code makes are small
+small : (s : tie.Start) → (s .args .i * (s .args .fields .lane / 8) ≤ 8) × (s .args .k * s .args .fields .lane ≤ 64)
+small s = let h = s .pre .1 .1 in numbers-small (s .pre .0) (s .args .k) (s .pre .1 .0) (s .args .r) (s .args .i) (h .1) (h .2)
 
-slice-aggregate-out : tie.Need-slice-aggregate-out
-slice-aggregate-out c = sym (length-take-le _ _ (c .before .before .before .pre .0 .sources .short))
+registers : (s : tie.Start)
+    → ((s .args .fields .first + s .args .r) * s .args .w + s .args .w ≤ 8192) × ((s .args .fields .second + s .args .r) * s .args .w + s .args .w ≤ 8192)
+registers s =
+    let h = s .pre .1 .1 in
+    let l = sources-lt (s .pre .0) (s .args .k) (s .pre .1 .0) (s .args .r) (s .args .i) (h .1) (h .2) in
+    let v = s .pre .0 .sources .width in
+    (register-small v (s .args .fields .first + s .args .r) (l .0), register-small v (s .args .fields .second + s .args .r) (l .1))
 
-recipe-of-requires : tie.Need-recipe-of-requires
-recipe-of-requires c κs = search needs
+cast-lane : tie.Need-cast-lane
+cast-lane c = search needs
+
+mul-wide : tie.Need-mul-wide
+mul-wide c = omega (arith, small (c .before .before .before))
 
 mul-at : tie.Need-mul-at
 mul-at c =
-    let s = c .before .before .before .before in
-    omega (arith, vector-small (s .pre .0 .sources .width) (s .args .v) (s .pre .1 .0))
+    let s = c .before .before .before in
+    omega (arith, vector-small (s .pre .0 .sources .width) (s .args .v) (s .pre .1 .1 .0))
 
-cast-n : tie.Need-cast-n
-cast-n c = search needs
+mul-from : tie.Need-mul-from
+mul-from c = omega (arith, small (c .before .before .before))
 
-add-n : tie.Need-add-n
-add-n c = search needs
+cast-x : tie.Need-cast-x
+cast-x c = search needs
 
-mul-n : tie.Need-mul-n
-mul-n c =
-    let s = c .before .before .before .before .before in
-    omega (arith, register-small (s .pre .0 .sources .width) (s .args .fields .first + s .args .r) (omega (arith, s .pre .0 .sources .ranges .first, s .pre .1 .1)))
+add-x : tie.Need-add-x
+add-x c = search needs
 
-cast-m : tie.Need-cast-m
-cast-m c = search needs
+mul-x : tie.Need-mul-x
+mul-x c = omega (arith, registers (c .before .before .before .before))
 
-add-m : tie.Need-add-m
-add-m c = search needs
+add-x-2 : tie.Need-add-x-2
+add-x-2 c = let s = c .before .before .before .before in omega (arith, registers s, small s)
 
-mul-m : tie.Need-mul-m
-mul-m c =
+cast-y : tie.Need-cast-y
+cast-y c = search needs
+
+add-y : tie.Need-add-y
+add-y c = search needs
+
+mul-y : tie.Need-mul-y
+mul-y c = omega (arith, registers (c .before .before .before .before .before))
+
+add-y-2 : tie.Need-add-y-2
+add-y-2 c = let s = c .before .before .before .before .before in omega (arith, registers s, small s)
+
+renew-requires : tie.Need-renew-requires
+renew-requires c κs =
     let s = c .before .before .before .before .before .before in
-    omega (arith, register-small (s .pre .0 .sources .width) (s .args .fields .second + s .args .r) (omega (arith, s .pre .0 .sources .ranges .second, s .pre .1 .1)))
-
-build-requires : tie.Need-build-requires
-build-requires c κs =
-    let q = c .before .before .before .before in
-    let s = q .before .before .before .before in
-    let f = s .args .fields in
-    let p = s .pre .0 .sources in
-    step-places p (s .args .i) (q .recipe-of .ensures) (s .pre .1 .2) _ (length-take-le _ _ (p .short) ∙ sym (whole-vector (s .pre .0))) (s .args .v) (f .first + s .args .r) (f .second + s .args .r) (s .args .za .now)
-    (room (s .args .v) (s .args .w) (s .args .w) (s .args .za .now) (s .pre .0 .za-long) (s .pre .1 .0))
-    (omega (arith, p .ranges .first, s .pre .1 .1)) (omega (arith, p .ranges .second, s .pre .1 .1))
-
-replace-requires : tie.Need-replace-requires
-replace-requires c κs =
-    let b = c .before .before .before .before in
-    let q = b .before .before .before .before .before in
-    let s = q .before .before .before .before in
-    let f = s .args .fields in
-    let p = s .pre .0 .sources in
-    let h =
-    step-room p (s .args .i) (q .recipe-of .ensures) (s .pre .1 .2) _ (length-take-le _ _ (p .short) ∙ sym (whole-vector (s .pre .0))) (s .args .v) (f .first + s .args .r) (f .second + s .args .r) (s .args .za .now)
-    (room (s .args .v) (s .args .w) (s .args .w) (s .args .za .now) (s .pre .0 .za-long) (s .pre .1 .0))
-    (omega (arith, p .ranges .first, s .pre .1 .1)) (omega (arith, p .ranges .second, s .pre .1 .1)) (b .build .last .1 .1 .1 .1 .1 .1 .0) (b .build .kept .1 .1 .1 .1 .1 .1 .0) in
-    (h .0, (h .1, h .2))
+    let h = s .pre .1 .1 in
+    let v = vector-there (s .pre .0) (s .args .k) (s .pre .1 .0) (s .args .r) (s .args .i) (h .1) (h .2) (s .args .v) (h .0) in
+    let l = lanes-there (s .pre .0) (s .args .k) (s .pre .1 .0) (s .args .r) (s .args .i) (h .1) (h .2) in
+    (of-array (s .pre .0) (s .args .k) (s .pre .1 .0), ((v .0, (v .1, v .2)), (omega (arith, l), omega (arith, l))))
 
 same-length : tie.Need-same-length
 same-length c = search needs
 
 returns : tie.Need-returns
 returns c =
-    let v = c .before .before .before in
-    let b = v .before .before .before .before .before in
-    let q = b .before .before .before .before .before in
-    let s = q .before .before .before .before in
-    let f = s .args .fields in
-    let p = s .pre .0 .sources in
-    step-renewal p (s .args .i) (q .recipe-of .ensures) (s .pre .1 .2) _ (length-take-le _ _ (p .short) ∙ sym (whole-vector (s .pre .0))) (s .args .v) (f .first + s .args .r) (f .second + s .args .r) (s .args .za .now)
-    (room (s .args .v) (s .args .w) (s .args .w) (s .args .za .now) (s .pre .0 .za-long) (s .pre .1 .0))
-    (omega (arith, p .ranges .first, s .pre .1 .1)) (omega (arith, p .ranges .second, s .pre .1 .1)) _ (b .build .kept .1 .1 .1 .1 .1 .1 .0)
-    _ (whole-vector (s .pre .0)) _ _ (b .build .ensures) (v .replace .ensures)
+    let n = c .before .before in
+    let s = n .before .before .before .before .before .before .before in
+    let h = s .pre .1 .1 in
+    array-renewal (s .pre .0) (s .args .k) (s .pre .1 .0) (s .args .r) (s .args .i) (h .1) (h .2) (s .args .v) _ _ (n .renew .ensures)
 
 pub step-vector-spec : {M : Type 1} → statement M
 step-vector-spec =
     tie.close
     (tie.spec
-    array-borrow-prefix-scratch
-    slice-aggregate-out
-    recipe-of-requires
+    cast-lane
+    mul-wide
     mul-at
-    cast-n
-    add-n
-    mul-n
-    cast-m
-    add-m
-    mul-m
-    build-requires
-    replace-requires
+    mul-from
+    cast-x
+    add-x
+    mul-x
+    add-x-2
+    cast-y
+    add-y
+    mul-y
+    add-y-2
+    renew-requires
     same-length
     returns)

@@ -7,7 +7,6 @@ use borrow.Author.Needs.{needs}
 use Rattle.elements.specs.Files.{replaced}
 use Rattle.bits.specs.Bits.{toggled}
 use Rattle.bits.proofs.Bits.{toggled-same}
-use Rattle.recipes.specs.Recipe.{perSource}
 use Rattle.machine.specs.Loop.{place, fresh}
 use Rattle.machine.proofs.Array.{two-or-four-vectors}
 use Rattle.machine.proofs.Vectors.{few-vectors, row-lt, Turned, turn, again, count-next}
@@ -30,16 +29,16 @@ here : (c : tie.After-past Inv-loop μ-loop)
     → let s = S (c .before .before) in
     let r = c .before .over .result in
     let i = c .past .result in
-    (s .args .first + r * s .args .stride + i < s .args .w) × (r < s .args .fields .group) × (i < perSource (s .args .fields .family))
+    (s .args .first + r * s .args .stride + i < s .args .w) × (r < s .args .fields .group) × (i < s .args .k)
 here c =
     let t = c .before .before in
     let s = S t in
-    row-lt (s .pre .0) (s .pre .1 .0) (s .pre .1 .1) (t .before .loop .q) _ _ (t .loop-test .taken) (c .before .over .ensures) (c .past .ensures)
+    row-lt (s .pre .0) (s .pre .1 .0) (t .before .loop .q) _ _ (t .loop-test .taken) (c .before .over .ensures) (c .past .ensures)
 
 -- what the turn leaves
 turned : (c : tie.After-step-vector Inv-loop μ-loop)
     → let t = c .before .before .before .before in
-    Turned (S t .pre .0) (S t .pre .1 .0) (t .before .loop .q) (t .before .loop .t) (c .step-vector .result) (c .step-vector .last .1 .1 .1 .1 .1 .1 .0)
+    Turned (S t .pre .0) (S t .pre .1 .0) (t .before .loop .q) (t .before .loop .t) (c .step-vector .result) (c .step-vector .last .1 .1 .1 .1 .1 .1 .1 .0)
 turned c =
     let i = c .before .before in
     let t = i .before .before in
@@ -94,7 +93,7 @@ step-vector-requires c κs =
     let i = c .before in
     let t = i .before .before in
     let h = here i in
-    (again (S t .pre .0) (t .before .loop .inv .4), (h .0, h .1, h .2))
+    (again (S t .pre .0) (t .before .loop .inv .4), (S t .pre .1 .1, (h .0, h .1, h .2)))
 
 add-t : tie.Need-add-t Inv-loop μ-loop
 add-t c = omega (arith, small (c .before .before))
@@ -112,7 +111,7 @@ loop-again c =
     let v = c .before .before in
     let t = v .before .before .before .before in
     let T = turned v in
-    (omega (arith, t .loop-test .taken), T .after, T .bits, small v .0, v .step-vector .kept .1 .1 .1 .1 .1 .1 .0 ∙ t .before .loop .inv .4)
+    (omega (arith, t .loop-test .taken), T .after, T .bits, small v .0, v .step-vector .kept .1 .1 .1 .1 .1 .1 .1 .0 ∙ t .before .loop .inv .4)
 
 same-length : tie.Need-same-length Inv-loop μ-loop
 same-length c = search needs
