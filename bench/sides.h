@@ -1,0 +1,33 @@
+/* The two sides: each call of the library beside the second program's, over all words of a work. */
+#ifndef SIDES_H
+#define SIDES_H
+
+#include "work.h"
+
+#include <stdbool.h>
+
+/* What one side answered: the registers at the end, for each word its last answer, and sums over all answers. */
+struct answers {
+    struct registers registers;
+    uint32_t report[3 * SECOND_MOST_WORDS]; /* refusal, toggled, written */
+    uint32_t words[SECOND_MOST_WORDS];      /* of encode and partner */
+    union fields fields[SECOND_MOST_WORDS]; /* of decode */
+    uint64_t answer;                        /* of run: the refusal, and above it the place */
+    uint32_t totals[3];                     /* of run */
+    uint64_t sums[3];                       /* of execute: the report's columns */
+};
+
+typedef void burst(const struct work *work, uint32_t passes, struct answers *answers);
+
+/* `library` and `second` make the same calls: `passes` times one for each word, or one for the list. */
+struct call {
+    const char *name;
+    burst *library, *second;
+};
+
+extern const struct call execute_call, decode_call, encode_call, partner_call, run_call;
+
+/* The name of something in which the two differ, or NULL. */
+const char *difference(const struct answers *library, const struct answers *second);
+
+#endif

@@ -1,0 +1,29 @@
+/* Times both sides of a call on one work, in turns. */
+#ifndef TIMING_H
+#define TIMING_H
+
+#include "sides.h"
+
+/* Nanoseconds for one of what is counted: the medians over the rounds, their ratio (library / second), and between
+ * which ratios the middle half of the rounds lies. */
+struct times {
+    double library, second, ratio, low, high;
+};
+
+enum { MOST_ROUNDS = 99 };
+
+struct effort {
+    uint32_t rounds;    /* at most MOST_ROUNDS */
+    double nanoseconds; /* that a sample takes at least, on the faster side */
+};
+
+void pin_to_one_core(void);
+
+/* Both sides once from each start. Ends the program where their answers differ. */
+void check(const char *name, const struct call *call, const struct work *work);
+
+/* Time for a burst of `passes`, by what it does: `things` of what is counted. Checks the answers afterwards. */
+struct times measure(const char *name, const struct call *call, const struct work *work, uint32_t passes,
+                     uint32_t things, struct effort effort);
+
+#endif
