@@ -1,110 +1,152 @@
-/* Times the library against the second program, and prints one row a line. See bench/run. */
-#include "timing.h"
+/* Times the library against the second program, and prints a table. See bench/run. */
+#include "growth.h"
 
 #include <stdio.h>
 #include <stdlib.h>
 #include <string.h>
 
-enum { MOST_ROWS = 200, WORDS = 64, PASSES = 4 };
-
-static const uint32_t lengths[] = {128, 256, 512};
-enum { LENGTHS = 3 };
+enum { WORDS = 64, PASSES = 4 };
 
 static struct {
     bool quick, check_only;
     const char *only;
 } options;
 
-struct row {
-    char name[40];
-    struct times times;
-};
-
-static struct row rows[MOST_ROWS];
-static int row_count;
 static struct work work;
 
-static bool is_wanted(const char *name)
+static struct effort effort(void)
 {
-    return options.only == NULL || strstr(name, options.only) != NULL;
+    static const struct effort quick = {.rounds = 15, .attempts = 1, .nanoseconds = 1e6};
+    static const struct effort full = {.rounds = 31, .attempts = 3, .nanoseconds = 3e6};
+    return options.quick ? quick : full;
 }
 
-/* Checks one row and, unless only that is asked for, times it. NULL: there are no times. */
-static const struct times *add_row(const char *name, const struct call *call, uint32_t passes, uint32_t things)
+/* Compares the answers and, unless only that is asked for, times them. NULL: there are no times to print. */
+static const struct row *add_row(const char *name, const struct call *call, uint32_t passes, uint32_t things)
 {
-    static const struct effort quick = {15, 1e6}, full = {31, 2e6};
-    if (!is_wanted(name))
+    if (options.only != NULL && strstr(name, options.only) == NULL)
         return NULL;
-    struct row *row = &rows[row_count++];
-    snprintf(row->name, sizeof row->name, "%s", name);
+    struct row *row = new_row(name);
     check(name, call, &work);
     if (options.check_only)
         return NULL;
-    row->times = measure(name, call, &work, passes, things, options.quick ? quick : full);
-    return &row->times;
+    row->times = measure(name, call, &work, passes, things, effort());
+    return row;
 }
 
-static void print_times(const char *name, const struct times *t)
-{
-    printf("%-24s %9.1f %9.1f %7.2f   %.2f to %.2f\n", name, t->library, t->second, t->ratio, t->low, t->high);
-    fflush(stdout);
-}
-
-static void print_title(const char *title)
+static void print_title(const char *title, const char *more)
 {
     if (!options.check_only)
-        printf("\n%s\n%-24s %9s %9s %7s   %s\n", title, "row", "library", "second", "ratio", "quartiles");
+        print_heads(title, more);
 }
 
 static void add_word_row(const char *name, const struct call *call)
 {
-    const struct times *t = add_row(name, call, PASSES, PASSES * work.count);
-    if (t != NULL)
-        print_times(name, t);
+    const struct row *row = add_row(name, call, PASSES, PASSES * work.count);
+    if (row == NULL)
+        return;
+    print_row(row);
+    print_row_end(row);
 }
 
 static void add_execute_rows(void)
 {
-    print_title("execute: ns a word");
+    print_title("execute, ns a word", "");
     for (const struct kind *kind = kinds; kind < kinds + KINDS; kind++)
         for (int i = 0; i < LENGTHS; i++) {
-            char name[40];
-            snprintf(name, sizeof name, "%s/%u", kind->name, (unsigned)lengths[i]);
+            char name[MOST_NAME];
+            name_execute_row(name, kind, lengths[i]);
             make_work(&work, lengths[i], kind, 1, WORDS);
             add_word_row(name, &execute_call);
         }
 }
 
-/* Which rows have a ratio above one bound and not above the other. */
-static int print_rows_between(double above, double up_to)
+static void add_other_rows(void)
 {
-    int count = 0;
-    for (int i = 0; i < row_count; i++)
-        if (rows[i].times.ratio > above && rows[i].times.ratio <= up_to) {
-            printf("%s%s", count == 0 ? " (" : " ", rows[i].name);
-            count++;
-        }
-    if (count > 0)
-        printf(")");
-    return count;
+    print_title("decode, encode and partner of words of all kinds, and execute of words that are refused, ns a word", "");
+    make_work(&work, 128, kinds, KINDS, WORDS);
+    add_word_row("decode", &decode_call);
+    add_word_row("encode", &encode_call);
+    add_word_row("partner", &partner_call);
+    make_unknown_words(&work);
+    add_word_row("refused-3", &execute_call);
+    make_work(&work, 128, kinds, 5, WORDS);
+    work.settings.named.modes = SECOND_SM | SECOND_ZA;
+    add_word_row("refused-4", &execute_call);
 }
 
-static int count_above(double bound)
+static void add_list_row(const char *families, uint32_t vl, const struct kind *first, size_t kinds_given)
 {
-    int count = 0;
-    for (int i = 0; i < row_count; i++)
-        count += rows[i].times.ratio > bound;
-    return count;
+    char name[MOST_NAME];
+    snprintf(name, sizeof name, "run-%s/%u", families, (unsigned)vl);
+    make_work(&work, vl, first, kinds_given, SECOND_MOST_WORDS);
+    make_list(&work, SECOND_MOST_WORDS);
+    const struct row *row = add_row(name, &run_call, 1, SECOND_MOST_WORDS);
+    if (row == NULL)
+        return;
+    print_row(row);
+    printf(" %8.2f %8.2f", 1e3 / row->times.library, 1e3 / row->times.second);
+    print_row_end(row);
 }
 
-static void print_end(void)
+/* No modes permit all families, so there are two mixed lists. */
+static void add_list_rows(void)
 {
-    int all = count_above(1.00), far = count_above(1.05);
-    printf("\n%d of %d rows have a ratio above 1.00: %d above 1.05", all, row_count, far);
-    print_rows_between(1.05, 1e9);
-    printf(", %d up to 1.05", all - far);
-    print_rows_between(1.00, 1.05);
-    printf("\n");
+    static const struct {
+        const char *families;
+        int first, kinds_given;
+    } lists[] = {{"ABC", 0, 7}, {"CDE", 5, 8}, {"A", 0, 2}, {"B", 2, 3}, {"C", 5, 2}, {"D", 7, 4}, {"E", 11, 2}};
+    print_title("run of a list of 1,024 words, ns a word", "        million words a second");
+    for (size_t i = 0; i < sizeof lists / sizeof *lists; i++)
+        for (int j = 0; j < LENGTHS; j++)
+            add_list_row(lists[i].families, lengths[j], &kinds[lists[i].first], (size_t)lists[i].kinds_given);
+}
+
+static const uint32_t counts[] = {0, 1, 16, 64, 256, 1024};
+enum { COUNTS = sizeof counts / sizeof *counts };
+
+/* Lists of the first words of one work, from none to all. */
+static void add_growth(const struct kind *kind, uint32_t vl)
+{
+    double library[COUNTS], second[COUNTS];
+    int timed = 0;
+    make_work(&work, vl, kind, 1, SECOND_MOST_WORDS);
+    for (int i = 0; i < COUNTS; i++) {
+        char name[MOST_NAME];
+        uint32_t n = counts[i], passes = 1 + 64 / (n + 1);
+        snprintf(name, sizeof name, "run-%s/%u/n=%u", kind->name, (unsigned)vl, (unsigned)n);
+        make_list(&work, n);
+        const struct row *row = add_row(name, &run_call, passes, passes);
+        if (row == NULL)
+            continue;
+        library[timed] = row->times.library;
+        second[timed] = row->times.second;
+        print_row(row);
+        if (n > 0 && timed > 0)
+            printf(" %8.2f %8.2f", (library[timed] - library[0]) / n, (second[timed] - second[0]) / n);
+        print_row_end(row);
+        timed++;
+    }
+    if (timed == COUNTS) {
+        print_line("library", counts, library, COUNTS);
+        print_line("second", counts, second, COUNTS);
+    }
+}
+
+static void add_growth_rows(void)
+{
+    print_title("growth with n: run of a list of n words, ns a list", "        ns a word beyond n=0");
+    for (int i = 0; i < LENGTHS; i += 2) {
+        add_growth(&kinds[2], lengths[i]);
+        add_growth(&kinds[7], lengths[i]);
+    }
+}
+
+static void print_start(void)
+{
+    if (!options.check_only)
+        printf("medians of %u rounds of %.0f ms or more a side; ratio: library / second; quartiles: of the rounds' ratios\n",
+               (unsigned)effort().rounds, effort().nanoseconds / 1e6);
 }
 
 static void read_options(int count, char **words)
@@ -126,10 +168,16 @@ int main(int count, char **words)
 {
     read_options(count, words);
     pin_to_one_core();
+    print_start();
     add_execute_rows();
-    if (options.check_only)
-        printf("%d rows, and both sides answer alike\n", row_count);
-    else
-        print_end();
+    add_other_rows();
+    add_list_rows();
+    add_growth_rows();
+    if (options.check_only) {
+        printf("%d rows, and both sides answer alike\n", count_rows());
+        return 0;
+    }
+    print_bytes();
+    print_slower_rows();
     return 0;
 }

@@ -7,7 +7,7 @@
 #include <string.h>
 #include <time.h>
 
-enum { MOST_BURSTS = 4096 };
+enum { LEAST_BURSTS = 5, MOST_BURSTS = 4096 };
 
 static struct answers library, second;
 
@@ -18,7 +18,7 @@ void pin_to_one_core(void)
     int here = sched_getcpu();
     CPU_ZERO(&core);
     if (here >= 0)
-        CPU_SET(here, &core);
+        CPU_SET((size_t)here, &core);
     if (here < 0 || sched_setaffinity(0, sizeof core, &core) != 0)
         puts("not pinned to one core");
 }
@@ -78,53 +78,90 @@ static double quantile(double *numbers, uint32_t count, double share)
     return numbers[(uint32_t)(share * (count - 1) + 0.5)];
 }
 
-/* The time of a burst: the median of them, so that one during which another process had the core does not count. The
- * registers are put back before each, outside the time: run on and on, the sums of C would all stay clamped. */
-static double sample(burst *side, struct answers *answers, const struct work *work, uint32_t passes, uint32_t bursts)
+struct side {
+    burst *burst;
+    struct answers *answers;
+    double times[MOST_BURSTS], median;
+};
+
+/* The registers are put back before each burst, outside the time: run on and on, the sums of C would all stay clamped. */
+static void time_bursts(struct side *side, const struct work *work, uint32_t passes, uint32_t from, uint32_t to)
 {
-    static double times[MOST_BURSTS];
-    for (uint32_t i = 0; i < bursts; i++) {
-        start(work, answers, i);
+    for (uint32_t i = from; i < to; i++) {
+        start(work, side->answers, i);
         double begun = now();
-        side(work, passes, answers);
-        times[i] = now() - begun;
+        side->burst(work, passes, side->answers);
+        side->times[i] = now() - begun;
     }
-    return quantile(times, bursts, 0.5);
+}
+
+/* A sample of each side: the median time of its bursts, so that one during which another process had the core does not
+ * count. The sides take turns inside a sample too, since the machine's speed changes from one millisecond to the next. */
+static void sample(struct side *one, struct side *other, const struct work *work, uint32_t passes, uint32_t bursts)
+{
+    for (uint32_t i = 0; i < bursts; i += STARTS) {
+        uint32_t to = i + STARTS < bursts ? i + STARTS : bursts;
+        time_bursts(one, work, passes, i, to);
+        time_bursts(other, work, passes, i, to);
+    }
+    one->median = quantile(one->times, bursts, 0.5);
+    other->median = quantile(other->times, bursts, 0.5);
 }
 
 /* How many bursts take both sides long enough; finding it warms both up. */
-static uint32_t enough_bursts(const struct call *call, const struct work *work, uint32_t passes, double nanoseconds)
+static uint32_t enough_bursts(struct side *a, struct side *b, const struct work *work, uint32_t passes,
+                              double nanoseconds)
 {
-    uint32_t bursts = 1;
-    for (; bursts < MOST_BURSTS; bursts++) {
-        double a = sample(call->library, &library, work, passes, bursts);
-        double b = sample(call->second, &second, work, passes, bursts);
-        if (a * bursts >= nanoseconds && b * bursts >= nanoseconds)
-            break;
-        bursts += bursts / 4;
+    for (uint32_t bursts = LEAST_BURSTS;; bursts += bursts / 4) {
+        sample(a, b, work, passes, bursts);
+        double shorter = a->median < b->median ? a->median : b->median;
+        if (bursts * shorter >= nanoseconds || bursts + bursts / 4 > MOST_BURSTS)
+            return bursts;
     }
-    return bursts < MOST_BURSTS ? bursts : MOST_BURSTS;
+}
+
+/* The ratio of the medians leaves the quartiles when the machine changes its speed between rounds. */
+static bool is_steady(const struct times *t)
+{
+    return t->high - t->low <= 0.1 * t->ratio && t->low - 0.02 <= t->ratio && t->ratio <= t->high + 0.02;
+}
+
+static struct times measure_once(struct side *a, struct side *b, const struct work *work, uint32_t passes,
+                                 uint32_t things, struct effort effort)
+{
+    double library_times[MOST_ROUNDS], second_times[MOST_ROUNDS], ratios[MOST_ROUNDS];
+    uint32_t rounds = effort.rounds, bursts = enough_bursts(a, b, work, passes, effort.nanoseconds);
+    for (uint32_t i = 0; i < rounds; i++) {
+        if (i % 2 == 0)
+            sample(a, b, work, passes, bursts);
+        else
+            sample(b, a, work, passes, bursts);
+        library_times[i] = a->median / things;
+        second_times[i] = b->median / things;
+        ratios[i] = a->median / b->median;
+    }
+    struct times t = {0};
+    t.library = quantile(library_times, rounds, 0.5);
+    t.second = quantile(second_times, rounds, 0.5);
+    t.ratio = t.library / t.second;
+    t.low = quantile(ratios, rounds, 0.25);
+    t.high = quantile(ratios, rounds, 0.75);
+    t.steady = is_steady(&t);
+    return t;
 }
 
 struct times measure(const char *name, const struct call *call, const struct work *work, uint32_t passes,
                      uint32_t things, struct effort effort)
 {
-    double a[MOST_ROUNDS], b[MOST_ROUNDS], ratios[MOST_ROUNDS];
-    uint32_t rounds = effort.rounds;
+    static struct side a, b;
+    struct times t = {0};
     forget();
-    uint32_t bursts = enough_bursts(call, work, passes, effort.nanoseconds);
-    for (uint32_t i = 0; i < rounds; i++) {
-        if (i % 2 == 0)
-            a[i] = sample(call->library, &library, work, passes, bursts);
-        b[i] = sample(call->second, &second, work, passes, bursts);
-        if (i % 2 == 1)
-            a[i] = sample(call->library, &library, work, passes, bursts);
-        ratios[i] = a[i] / b[i];
-    }
+    a.burst = call->library;
+    a.answers = &library;
+    b.burst = call->second;
+    b.answers = &second;
+    for (uint32_t i = 0; i < effort.attempts && !t.steady; i++)
+        t = measure_once(&a, &b, work, passes, things, effort);
     compare(name, call);
-    struct times t = {.library = quantile(a, rounds, 0.5) / things, .second = quantile(b, rounds, 0.5) / things};
-    t.ratio = t.library / t.second;
-    t.low = quantile(ratios, rounds, 0.25);
-    t.high = quantile(ratios, rounds, 0.75);
     return t;
 }

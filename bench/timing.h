@@ -5,15 +5,18 @@
 #include "sides.h"
 
 /* Nanoseconds for one of what is counted: the medians over the rounds, their ratio (library / second), and between
- * which ratios the middle half of the rounds lies. */
+ * which ratios the middle half of the rounds lies. Times that are not steady tell little: the machine was at something
+ * else, or changed its speed. */
 struct times {
     double library, second, ratio, low, high;
+    bool steady;
 };
 
 enum { MOST_ROUNDS = 99 };
 
 struct effort {
     uint32_t rounds;    /* at most MOST_ROUNDS */
+    uint32_t attempts;  /* to find steady times */
     double nanoseconds; /* that a sample takes at least, on the faster side */
 };
 
@@ -22,7 +25,7 @@ void pin_to_one_core(void);
 /* Both sides once from each start. Ends the program where their answers differ. */
 void check(const char *name, const struct call *call, const struct work *work);
 
-/* Time for a burst of `passes`, by what it does: `things` of what is counted. Checks the answers afterwards. */
+/* Times bursts of `passes`, which have `things` of what is counted, and compares the answers afterwards. */
 struct times measure(const char *name, const struct call *call, const struct work *work, uint32_t passes,
                      uint32_t things, struct effort effort);
 
