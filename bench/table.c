@@ -65,17 +65,22 @@ static int count_between(int above, int up_to)
 
 static void print_between(int above, int up_to)
 {
+    const char *before = " (";
     for (int i = 0; i < row_count; i++)
-        if (shown(&rows[i]) > above && shown(&rows[i]) <= up_to)
-            printf(" %s", rows[i].name);
+        if (shown(&rows[i]) > above && shown(&rows[i]) <= up_to) {
+            printf("%s%s", before, rows[i].name);
+            before = " ";
+        }
+    if (count_between(above, up_to) > 0)
+        printf(")");
 }
 
 void print_slower_rows(void)
 {
     int near = count_between(100, 105), far = count_between(105, INT_MAX);
-    printf("\n%d of %d rows have a ratio above 1.00; %d of them above 1.05:", near + far, row_count, far);
+    printf("\n%d of %d rows have a ratio above 1.00: %d above 1.05", near + far, row_count, far);
     print_between(105, INT_MAX);
-    printf("; %d up to 1.05:", near);
+    printf(", %d up to 1.05", near);
     print_between(100, 105);
     puts("");
 }
