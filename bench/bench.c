@@ -63,7 +63,7 @@ static void add_execute_rows(void)
 
 static void add_other_rows(void)
 {
-    print_title("decode, encode and partner of words of all kinds, and execute of words that are refused, ns a word", "");
+    print_title("decode, encode and partner of all kinds, and execute of words that are refused, ns a word", "");
     make_work(&work, 128, kinds, KINDS, WORDS);
     add_word_row("decode", &decode_call);
     add_word_row("encode", &encode_call);
@@ -144,9 +144,13 @@ static void add_growth_rows(void)
 
 static void print_start(void)
 {
-    if (!options.check_only)
-        printf("medians of %u rounds of %.0f ms or more a side; ratio: library / second; quartiles: of the rounds' ratios\n",
-               (unsigned)effort().rounds, effort().nanoseconds / 1e6);
+    struct effort e = effort();
+    if (options.check_only)
+        return;
+    printf("medians of %u rounds of %.0f ms or more a side; ratio: library / second; quartiles: of the rounds' ratios\n",
+           (unsigned)e.rounds, e.nanoseconds / 1e6);
+    if (e.attempts > 1)
+        printf("a row that is not steady is timed up to %u times, and the last stands\n", (unsigned)e.attempts);
 }
 
 static void read_options(int count, char **words)

@@ -45,6 +45,8 @@ void print_row(const struct row *row)
 
 void print_row_end(const struct row *row)
 {
+    if (row->times.attempts > 1)
+        printf("  attempt %u", (unsigned)row->times.attempts);
     puts(row->times.steady ? "" : "  unsteady");
     fflush(stdout);
 }

@@ -84,7 +84,7 @@ struct side {
     double times[MOST_BURSTS], median;
 };
 
-/* The registers are put back before each burst, outside the time: run on and on, the sums of C would all stay clamped. */
+/* The registers are put back before each burst, outside the time: else the sums of C would soon all stay clamped. */
 static void time_bursts(struct side *side, const struct work *work, uint32_t passes, uint32_t from, uint32_t to)
 {
     for (uint32_t i = from; i < to; i++) {
@@ -96,7 +96,7 @@ static void time_bursts(struct side *side, const struct work *work, uint32_t pas
 }
 
 /* A sample of each side: the median time of its bursts, so that one during which another process had the core does not
- * count. The sides take turns inside a sample too, since the machine's speed changes from one millisecond to the next. */
+ * count. The sides take turns inside a sample too, since the machine's speed can change from one to the next. */
 static void sample(struct side *one, struct side *other, const struct work *work, uint32_t passes, uint32_t bursts)
 {
     for (uint32_t i = 0; i < bursts; i += STARTS) {
@@ -155,13 +155,15 @@ struct times measure(const char *name, const struct call *call, const struct wor
 {
     static struct side a, b;
     struct times t = {0};
+    uint32_t attempts = 0;
     forget();
     a.burst = call->library;
     a.answers = &library;
     b.burst = call->second;
     b.answers = &second;
-    for (uint32_t i = 0; i < effort.attempts && !t.steady; i++)
+    for (; attempts < effort.attempts && !t.steady; attempts++)
         t = measure_once(&a, &b, work, passes, things, effort);
+    t.attempts = attempts;
     compare(name, call);
     return t;
 }

@@ -10,13 +10,14 @@
 struct times {
     double library, second, ratio, low, high;
     bool steady;
+    uint32_t attempts; /* of which only the last is told */
 };
 
 enum { MOST_ROUNDS = 99 };
 
 struct effort {
     uint32_t rounds;    /* at most MOST_ROUNDS */
-    uint32_t attempts;  /* to find steady times */
+    uint32_t attempts;  /* at most, until the times are steady */
     double nanoseconds; /* that a sample takes at least, on the faster side */
 };
 

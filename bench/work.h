@@ -45,8 +45,8 @@ struct work {
     size_t list_length;
 };
 
-/* `count` words that all differ, of the `kinds_given` kinds from `first` on in turn, with random registers. The modes are
- * those that permit `first`. The same arguments make the same work. */
+/* `count` words that all differ, of the `kinds_given` kinds from `first` on in turn, with random registers. The modes
+ * are those that permit `first`. The same arguments make the same work. */
 void make_work(struct work *work, uint32_t vl, const struct kind *first, size_t kinds_given, uint32_t count);
 
 /* In place of the words: such as no layout matches. */
