@@ -147,7 +147,7 @@ static void print_start(void)
     struct effort e = effort();
     if (options.check_only)
         return;
-    printf("medians of %u rounds of %.0f ms or more a side; ratio: library / second; quartiles: of the rounds' ratios\n",
+    printf("medians of %u rounds of %.0f ms or more a side; ratio: library / second; quartiles of the rounds' ratios\n",
            (unsigned)e.rounds, e.nanoseconds / 1e6);
     if (e.attempts > 1)
         printf("a row that is not steady is timed up to %u times, and the last stands\n", (unsigned)e.attempts);
