@@ -8,7 +8,7 @@
 enum { WORDS = 64, PASSES = 4 };
 
 static struct {
-    bool quick, check_only;
+    bool quick, check_only, patient;
     const char *only;
 } options;
 
@@ -18,7 +18,11 @@ static struct effort effort(void)
 {
     static const struct effort quick = {.rounds = 15, .attempts = 1, .nanoseconds = 1e6};
     static const struct effort full = {.rounds = 31, .attempts = 3, .nanoseconds = 3e6};
-    return options.quick ? quick : full;
+    struct effort e = options.quick ? quick : full;
+    e.patient = options.patient;
+    if (e.patient)
+        e.attempts = 99;
+    return e;
 }
 
 /* Compares the answers and, unless only that is asked for, times them. NULL: there are no times to print. */
@@ -160,10 +164,12 @@ static void read_options(int count, char **words)
             options.quick = true;
         else if (strcmp(words[i], "--check-only") == 0)
             options.check_only = true;
+        else if (strcmp(words[i], "--patient") == 0)
+            options.patient = true;
         else if (strcmp(words[i], "--only") == 0 && i + 1 < count)
             options.only = words[++i];
         else {
-            fprintf(stderr, "usage: bench [--quick] [--check-only] [--only TEXT]\n");
+            fprintf(stderr, "usage: bench [--quick] [--patient] [--check-only] [--only TEXT]\n");
             exit(2);
         }
 }

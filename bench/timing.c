@@ -1,6 +1,8 @@
 #define _GNU_SOURCE
 #include "timing.h"
 
+#include "others.h"
+
 #include <sched.h>
 #include <stdio.h>
 #include <stdlib.h>
@@ -161,8 +163,14 @@ struct times measure(const char *name, const struct call *call, const struct wor
     a.answers = &library;
     b.burst = call->second;
     b.answers = &second;
-    for (; attempts < effort.attempts && !t.steady; attempts++)
+    for (; attempts < effort.attempts && !t.steady; attempts++) {
+        if (effort.patient)
+            wait_for_quiet();
+        struct moment begun = this_moment();
         t = measure_once(&a, &b, work, passes, things, effort);
+        if (effort.patient && others_since(begun) > LITTLE)
+            t.steady = false;
+    }
     t.attempts = attempts;
     compare(name, call);
     return t;

@@ -19,6 +19,7 @@ struct effort {
     uint32_t rounds;    /* at most MOST_ROUNDS */
     uint32_t attempts;  /* at most, until the times are steady */
     double nanoseconds; /* that a sample takes at least, on the faster side */
+    bool patient;       /* waits for quiet, and takes no times for steady that others' work fell into */
 };
 
 void pin_to_one_core(void);
