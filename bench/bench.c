@@ -20,8 +20,6 @@ static struct effort effort(void)
     static const struct effort full = {.rounds = 31, .attempts = 3, .nanoseconds = 3e6};
     struct effort e = options.quick ? quick : full;
     e.patient = options.patient;
-    if (e.patient)
-        e.attempts = 99;
     return e;
 }
 
@@ -188,6 +186,8 @@ int main(int count, char **words)
         return 0;
     }
     print_bytes();
+    if (options.patient)
+        printf("\n%u rounds were taken again, since the core did not keep its full speed\n", (unsigned)rounds_again());
     print_slower_rows();
     return 0;
 }

@@ -1,17 +1,22 @@
 #define _GNU_SOURCE
 #include "timing.h"
 
-#include "others.h"
+#include "speed.h"
 
 #include <sched.h>
 #include <stdio.h>
 #include <stdlib.h>
 #include <string.h>
-#include <time.h>
 
-enum { LEAST_BURSTS = 5, MOST_BURSTS = 4096 };
+enum { LEAST_BURSTS = 5, MOST_BURSTS = 4096, MOST_TRIES = 200 };
 
 static struct answers library, second;
+static uint32_t again;
+
+uint32_t rounds_again(void)
+{
+    return again;
+}
 
 /* Elsewhere it would meet cold caches. Where it is not allowed, the times only spread more. */
 void pin_to_one_core(void)
@@ -23,13 +28,6 @@ void pin_to_one_core(void)
         CPU_SET((size_t)here, &core);
     if (here < 0 || sched_setaffinity(0, sizeof core, &core) != 0)
         puts("not pinned to one core");
-}
-
-static double now(void)
-{
-    struct timespec t;
-    clock_gettime(CLOCK_MONOTONIC, &t);
-    return 1e9 * (double)t.tv_sec + (double)t.tv_nsec;
 }
 
 static void start(const struct work *work, struct answers *answers, uint32_t i)
@@ -128,16 +126,33 @@ static bool is_steady(const struct times *t)
     return t->high - t->low <= 0.1 * t->ratio && t->low - 0.02 <= t->ratio && t->ratio <= t->high + 0.02;
 }
 
+/* A sample at full speed from before to after. Which samples are dropped does not hang on their times. */
+static bool sample_at_full_speed(struct side *one, struct side *other, const struct work *work, uint32_t passes,
+                                 uint32_t bursts)
+{
+    for (uint32_t i = 0; i < MOST_TRIES; i++, again++) {
+        bool waited = wait_for_full_speed();
+        sample(one, other, work, passes, bursts);
+        if (!waited)
+            return false;
+        if (is_at_full_speed())
+            return true;
+    }
+    return false;
+}
+
 static struct times measure_once(struct side *a, struct side *b, const struct work *work, uint32_t passes,
                                  uint32_t things, struct effort effort)
 {
+    bool patient = effort.patient;
     double library_times[MOST_ROUNDS], second_times[MOST_ROUNDS], ratios[MOST_ROUNDS];
     uint32_t rounds = effort.rounds, bursts = enough_bursts(a, b, work, passes, effort.nanoseconds);
     for (uint32_t i = 0; i < rounds; i++) {
-        if (i % 2 == 0)
-            sample(a, b, work, passes, bursts);
+        struct side *one = i % 2 == 0 ? a : b, *other = i % 2 == 0 ? b : a;
+        if (patient)
+            patient = sample_at_full_speed(one, other, work, passes, bursts);
         else
-            sample(b, a, work, passes, bursts);
+            sample(one, other, work, passes, bursts);
         library_times[i] = a->median / things;
         second_times[i] = b->median / things;
         ratios[i] = a->median / b->median;
@@ -148,7 +163,7 @@ static struct times measure_once(struct side *a, struct side *b, const struct wo
     t.ratio = t.library / t.second;
     t.low = quantile(ratios, rounds, 0.25);
     t.high = quantile(ratios, rounds, 0.75);
-    t.steady = is_steady(&t);
+    t.steady = is_steady(&t) && patient == effort.patient;
     return t;
 }
 
@@ -163,14 +178,8 @@ struct times measure(const char *name, const struct call *call, const struct wor
     a.answers = &library;
     b.burst = call->second;
     b.answers = &second;
-    for (; attempts < effort.attempts && !t.steady; attempts++) {
-        if (effort.patient)
-            wait_for_quiet();
-        struct moment begun = this_moment();
+    for (; attempts < effort.attempts && !t.steady; attempts++)
         t = measure_once(&a, &b, work, passes, things, effort);
-        if (effort.patient && others_since(begun) > LITTLE)
-            t.steady = false;
-    }
     t.attempts = attempts;
     compare(name, call);
     return t;

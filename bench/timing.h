@@ -19,10 +19,13 @@ struct effort {
     uint32_t rounds;    /* at most MOST_ROUNDS */
     uint32_t attempts;  /* at most, until the times are steady */
     double nanoseconds; /* that a sample takes at least, on the faster side */
-    bool patient;       /* waits for quiet, and takes no times for steady that others' work fell into */
+    bool patient;       /* takes each round at the core's full speed */
 };
 
 void pin_to_one_core(void);
+
+/* How many rounds were taken again since the core did not keep its full speed. */
+uint32_t rounds_again(void);
 
 /* Both sides once from each start. Ends the program where their answers differ. */
 void check(const char *name, const struct call *call, const struct work *work);
