@@ -1,5 +1,5 @@
-# Joins the tables of several places of the code: of each row the mean times, their ratio, and the lowest and the highest
-# ratio at a place.
+# Joins the tables of several places of the code: of each row the mean times, their ratio, and the lowest and the
+# highest ratio at a place.
 function in_brackets(names) {
     return names == "" ? "" : " (" substr(names, 2) ")"
 }
@@ -23,8 +23,8 @@ END {
     for (i = 1; i <= rows; i++) {
         name = order[i]
         ratio = sprintf("%.2f", library[name] / second[name]) + 0 # as it is printed
-        printf "%-18s %10.1f %10.1f %6.2f  %.2f to %.2f%s\n", name, library[name] / tables[name], second[name] / tables[name],
-            ratio, lowest[name], highest[name], unsteady[name]
+        printf "%-18s %10.1f %10.1f %6.2f  %.2f to %.2f%s\n", name, library[name] / tables[name],
+            second[name] / tables[name], ratio, lowest[name], highest[name], unsteady[name]
         if (ratio > 1.05) { far++; far_names = far_names " " name }
         else if (ratio > 1.00) { near++; near_names = near_names " " name }
     }
