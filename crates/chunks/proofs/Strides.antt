@@ -1,19 +1,17 @@
 -- The chunks of a stepped vector are its eight bytes, one after the other. Assumes nothing.
 use mathlib.Core.Path.{_≡_, refl, sym, ap, _∙_}
-use mathlib.Core.Logic.{_⊎_, ⊎-elim}
 use mathlib.Core.Bool.{Bool}
 use mathlib.Core.List.{List}
-use Prim.Native.Nat.{ℕ, zero, suc, _+_, _*_, _/_, _%_, _^_, _<_, _≤_}
-use native.Mathlib.Nat.{add-assoc, add-mul, mul-assoc, mul-comm, mod-eq-of-lt, mul-le-mul-right, suc-mul, mul-div-cancel}
+use Prim.Native.Nat.{ℕ, suc, _+_, _*_, _/_, _%_, _^_, _<_}
+use native.Mathlib.Nat.{add-mul, mul-assoc, mod-eq-of-lt, mul-le-mul-right, suc-mul, mul-div-cancel}
 use native.Mathlib.Omega.{arith}
 use lib.Dec.{lit<}
 use lib.ListN.{length}
-use Rattle.elements.specs.Elements.{elementAt, element, vector}
+use Rattle.elements.specs.Elements.{elementAt, vector}
 use Rattle.elements.proofs.Elements.{Bytes}
 use Rattle.elements.proofs.Vectors.{length-vector, vector-element}
-use Rattle.lanes.specs.Lane.{laneStep}
 use Rattle.lanes.proofs.Laws.{laneStep-lt}
-use Rattle.chunks.specs.Chunk.{strideStep, strideBytes, joined, partStep, chunk}
+use Rattle.chunks.specs.Chunk.{strideStep, strideBytes, partStep, chunk}
 use Rattle.chunks.proofs.Joined.{joined-cong, elements-joined, element-of}
 
 -- an element of `wide` bits has w bytes, and there are `per` of them in eight

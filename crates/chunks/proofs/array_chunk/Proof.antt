@@ -2,7 +2,6 @@
 use mathlib.Core.Path.{refl}
 use mathlib.Core.Logic.{inl, inr}
 use native.Mathlib.Omega.{arith}
-use borrow.Author.Needs.{needs}
 use Rattle.chunks.proofs.Parts.{one-is, array-64, array-32, array-16}
 use Rattle.chunks.proofs.array_chunk.Statement.{statement}
 use Rattle.chunks.proofs.array_chunk.Tie as tie
