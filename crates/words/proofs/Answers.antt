@@ -1,7 +1,7 @@
 -- What the promises of decode and partner determine, and what callers take from them. Assumes nothing.
 use Prim.Native.Nat.{ℕ, _<_}
 use native.Mathlib.Omega.{arith}
-use mathlib.Core.Path.{_≡_, refl, sym, ap, _∙_, subst}
+use mathlib.Core.Path.{_≡_, refl, sym, ap, _∙_}
 use mathlib.Core.Logic.{_↔_, _≢_}
 use mathlib.Core.Bool.{true, false}
 use borrow.Author.Tests.{ne-eqb}
@@ -16,13 +16,13 @@ use Rattle.words.specs.Sign.{partnerIn}
 use Rattle.words.specs.declared.Family.{Family}
 use Rattle.words.specs.declared.Family.the-variants.{ByElement, Vector, Saturating, LongLong, Long}
 use Rattle.words.specs.declared.Fields.{Fields}
-use Rattle.words.specs.declared.Described.{Described}
-use Rattle.words.specs.declared.Described.the-variants.{As, Nothing}
+use Rattle.words.specs.declared.Described.the-variants.{As}
 use Rattle.words.specs.declared.Decoded.{Decoded}
 use Rattle.words.specs.declared.Decoded.the-variants.{Word, Refused}
 use Rattle.words.specs.declared.Partnered as partnered
 use Rattle.words.specs.declared.Partnered.the-variants.{Word as Partner, Refused as NotPartnered}
 use Rattle.words.proofs.Table.{SaidBy, described-exactly}
+use Rattle.words.proofs.Enabled.{enabled-says}
 use Rattle.words.proofs.Partners.{partner-turned, partner-back, partner-sign}
 
 -- ---- each answer is determined by its promise
@@ -54,18 +54,6 @@ pub record Accepted (s : Settings) (w : ℕ) (f : Fields) : Type 0 where
   pub valid : validSettings s ≡ true
   pub says : describe w ≡ As f
   pub enabled : enables (s .features .0) f ≡ true
-
-enabled-says : (features : ℕ) (d : Described) (f : Fields) → enabledOnly features d ≡ (0, f) → (d ≡ As f) × (enables features f ≡ true)
-enabled-says features (As g) f =
-    by-cond (enables features g) (0, g) (3, noFields) (0, f)
-    (λ t e. let h : g ≡ f = ap (λ (p : ℕ × Fields). p .1) e in (ap As h, subst (λ (x : Fields). enables features x ≡ true) h t))
-    (λ _ e. let z : _≡_ {A = ℕ} 3 0 = ap (λ (p : ℕ × Fields). p .0) e in absurd (omega arith))
-enabled-says features Nothing f = λ e. let z : _≡_ {A = ℕ} 3 0 = ap (λ (p : ℕ × Fields). p .0) e in absurd (omega arith)
-
--- decoding goes by what the word says
-pub decode-says : (features w : ℕ) {d : Described} → d ≡ describe w → decodeEnabled features w ≡ enabledOnly features d
-unfolding decodeEnabled
-decode-says features w e = ap (enabledOnly features) (sym e)
 
 decode-accepted : (s : Settings) (w : ℕ) (f : Fields) → decodePaper s w ≡ (0, f) → Accepted s w f
 unfolding decodePaper decodeEnabled

@@ -1,5 +1,6 @@
 pub mod Table
 pub mod Turned
 pub mod Partners
+pub mod Enabled
 pub mod Answers
 pub mod Ranges

@@ -3,7 +3,7 @@ ghost use Prim.Native.Nat.{_+_, _*_, _/_, _%_, _^_, _<_};
 ghost use Rattle.layouts.specs.Layout.{matches};
 ghost use Rattle.words.specs.Rows.{rowA, rowB, rowC16, rowC32, rowD2, rowD4, rowE2, rowE4};
 ghost use Rattle.words.specs.Says.{byElement, fieldsA16, fieldsA32, vector, saturating, fieldsC, intoZa, fieldsD, fieldsE, entryA, entryB, tableZa, saysOf, saysFirst, describe as describePaper};
-ghost use Rattle.words.specs.Decode.{enables as enablesPaper, decodedSays, decodeEnabled, decodePaper};
+ghost use Rattle.words.specs.Decode.{enablesFamily, enables as enablesPaper, decodedSays, enabledOnly, decodeEnabled, decodePaper};
 ghost use Rattle.words.specs.Partner.{partneredSays, PartnerPromise};
 ghost use Rattle.words.specs.Sign.{partnerIn};
 use layouts::*;
@@ -184,20 +184,6 @@ fn fields_a32(w: u32) -> Fields
     )
 }
 
-// A word of family A. Sizes 00 and 11 are reserved.
-fn says_a(w: u32) -> Described
-    ensures { λ r. ⌜ r ≡ saysOf entryA w ⌝ }
-{
-    let size = w / BIT_22 % 4;
-    if size == 0b01 {
-        return Described::As(fields_a16(w));
-    }
-    if size == 0b10 {
-        return Described::As(fields_a32(w));
-    }
-    Described::Nothing
-}
-
 // The lane of B, 8<<ss, of a size that is not reserved.
 fn lane_b(size: u32) -> u32
     requires { ⌜ size < 3 ⌝ }
@@ -229,17 +215,6 @@ fn vector_fields(w: u32, lane: u32) -> Fields
         select: 0,
         offset: 0,
     }
-}
-
-// A word of family B. Size 11 is reserved.
-fn says_b(w: u32) -> Described
-    ensures { λ r. ⌜ r ≡ saysOf entryB w ⌝ }
-{
-    let size = w / BIT_22 % 4;
-    if size == 0b11 {
-        return Described::Nothing;
-    }
-    Described::As(vector_fields(w, lane_b(size)))
 }
 
 fn saturating_fields(w: u32, lane: u32, index: u32, second: u32) -> Fields
@@ -359,42 +334,19 @@ fn fields_e4(w: u32) -> Fields
     )
 }
 
-// A word of families D and E.
-fn says_za(w: u32) -> Described
-    ensures { λ r. ⌜ r ≡ saysFirst tableZa w ⌝ }
+// Whether the features enable a word of the family, whose source elements have `lane` bits.
+fn enables_family(features: Features, family: Family, lane: u32) -> bool
+    ensures { λ r. ⌜ r ≡ enablesFamily (features .0) family lane ⌝ }
 {
-    if is_d2(w) {
-        return Described::As(fields_d2(w));
+    match family {
+        Family::ByElement => features.contains(Features::ADV_SIMD),
+        Family::Vector => features.contains(Features::ADV_SIMD),
+        Family::Saturating => features.contains(Features::SVE2) | features.contains(Features::SME),
+        Family::LongLong => {
+            features.contains(Features::SME2) & ((lane == 8) | features.contains(Features::I16I64))
+        }
+        Family::Long => features.contains(Features::SME2),
     }
-    if is_d4(w) {
-        return Described::As(fields_d4(w));
-    }
-    if is_e2(w) {
-        return Described::As(fields_e2(w));
-    }
-    if is_e4(w) {
-        return Described::As(fields_e4(w));
-    }
-    Described::Nothing
-}
-
-// The fields of a word, whatever the features.
-pub fn describe(w: u32) -> Described
-    ensures { λ r. ⌜ r ≡ describePaper w ⌝ }
-{
-    if is_a(w) {
-        return says_a(w);
-    }
-    if is_b(w) {
-        return says_b(w);
-    }
-    if is_c16(w) {
-        return Described::As(fields_c16(w));
-    }
-    if is_c32(w) {
-        return Described::As(fields_c32(w));
-    }
-    says_za(w)
 }
 
 // Whether the features enable a word of these fields.
@@ -402,32 +354,110 @@ pub fn enables(features: Features, f: Fields) -> bool
     ensures { λ r. ⌜ r ≡ enablesPaper (features .0) f ⌝ }
 {
     let family = f.family;
-    match family {
-        Family::ByElement => features.contains(Features::ADV_SIMD),
-        Family::Vector => features.contains(Features::ADV_SIMD),
-        Family::Saturating => features.contains(Features::SVE2) | features.contains(Features::SME),
-        Family::LongLong => {
-            features.contains(Features::SME2)
-                & ((f.lane == 8) | features.contains(Features::I16I64))
-        }
-        Family::Long => features.contains(Features::SME2),
-    }
+    enables_family(features, family, f.lane)
 }
 
-// The fields of a word under features alone: for callers that have tested the settings.
+// A word of row A. Sizes 00 and 11 are reserved.
+fn decode_a(features: Features, w: u32) -> Decoded
+    ensures { λ r. ⌜ decodedSays r ≡ enabledOnly (features .0) (saysOf entryA w) ⌝ }
+{
+    let size = w / BIT_22 % 4;
+    if size == 0b01 {
+        if enables_family(features, Family::ByElement, 16) {
+            return Decoded::Word(fields_a16(w));
+        }
+        return Decoded::Refused(Refusal::UnknownWord);
+    }
+    if size == 0b10 {
+        if enables_family(features, Family::ByElement, 32) {
+            return Decoded::Word(fields_a32(w));
+        }
+        return Decoded::Refused(Refusal::UnknownWord);
+    }
+    Decoded::Refused(Refusal::UnknownWord)
+}
+
+// A word of row B. Size 11 is reserved.
+fn decode_b(features: Features, w: u32) -> Decoded
+    ensures { λ r. ⌜ decodedSays r ≡ enabledOnly (features .0) (saysOf entryB w) ⌝ }
+{
+    let size = w / BIT_22 % 4;
+    if size == 0b11 {
+        return Decoded::Refused(Refusal::UnknownWord);
+    }
+    let lane = lane_b(size);
+    if enables_family(features, Family::Vector, lane) {
+        return Decoded::Word(vector_fields(w, lane));
+    }
+    Decoded::Refused(Refusal::UnknownWord)
+}
+
+// A word of the rows of D and E.
+fn decode_za(features: Features, w: u32) -> Decoded
+    ensures { λ r. ⌜ decodedSays r ≡ enabledOnly (features .0) (saysFirst tableZa w) ⌝ }
+{
+    let lane_d = 8 + 8 * (w / BIT_22 % 2);
+    if is_d2(w) {
+        if enables_family(features, Family::LongLong, lane_d) {
+            return Decoded::Word(fields_d2(w));
+        }
+        return Decoded::Refused(Refusal::UnknownWord);
+    }
+    if is_d4(w) {
+        if enables_family(features, Family::LongLong, lane_d) {
+            return Decoded::Word(fields_d4(w));
+        }
+        return Decoded::Refused(Refusal::UnknownWord);
+    }
+    if is_e2(w) {
+        if enables_family(features, Family::Long, 16) {
+            return Decoded::Word(fields_e2(w));
+        }
+        return Decoded::Refused(Refusal::UnknownWord);
+    }
+    if is_e4(w) {
+        if enables_family(features, Family::Long, 16) {
+            return Decoded::Word(fields_e4(w));
+        }
+        return Decoded::Refused(Refusal::UnknownWord);
+    }
+    Decoded::Refused(Refusal::UnknownWord)
+}
+
+// The fields of a word under features alone: for callers that have tested the settings. Each answer is made where it is
+// returned, since fields that pass from one answer into another are copied, which cost more than to find them.
 pub fn decode_enabled(features: Features, word: u32) -> Decoded
     ensures { λ r. ⌜ decodedSays r ≡ decodeEnabled (features .0) word ⌝ }
 {
-    let described = describe(word);
-    match described {
-        Described::As(f) => {
-            if enables(features, f) {
-                Decoded::Word(f)
-            } else {
-                Decoded::Refused(Refusal::UnknownWord)
-            }
+    if is_a(word) {
+        return decode_a(features, word);
+    }
+    if is_b(word) {
+        return decode_b(features, word);
+    }
+    if is_c16(word) {
+        if enables_family(features, Family::Saturating, 16) {
+            return Decoded::Word(fields_c16(word));
         }
-        Described::Nothing => Decoded::Refused(Refusal::UnknownWord),
+        return Decoded::Refused(Refusal::UnknownWord);
+    }
+    if is_c32(word) {
+        if enables_family(features, Family::Saturating, 32) {
+            return Decoded::Word(fields_c32(word));
+        }
+        return Decoded::Refused(Refusal::UnknownWord);
+    }
+    decode_za(features, word)
+}
+
+// The fields of a word, whatever the features: all five enable every word.
+pub fn describe(w: u32) -> Described
+    ensures { λ r. ⌜ r ≡ describePaper w ⌝ }
+{
+    let decoded = decode_enabled(Features(31), w);
+    match decoded {
+        Decoded::Word(f) => Described::As(f),
+        Decoded::Refused(_) => Described::Nothing,
     }
 }
 
