@@ -1,5 +1,5 @@
--- What the six public calls promise, side by side. Each says what a call answers and what it leaves in what was lent to it. What it cites stands where the call
--- is made: layouts and fields in `words`, the step in `machine`, the list in `runlist`.
+-- What the six public calls promise, side by side: what each answers, and what it leaves in what was lent to it. What a promise cites stands
+-- in the crates below: layouts and fields in `words`, the step in `machine`, the list in `runlist`.
 use Prim.Native.Nat.{ℕ}
 use mathlib.Core.Path.{_≡_}
 use mathlib.Core.List.{List}
@@ -37,6 +37,7 @@ ExecutePromise = machine.ExecutePromise
 abbrev pub PercentPromise : ℕ → ℕ → ℕ → Type 0
 PercentPromise toggled written r = r ≡ percentOf toggled written
 
--- "An accepted list leaves the final Z and ZA, and three numbers for each word (refusal or 0, toggled, written) in the report, whose rest stays."
+-- "An accepted list leaves the final Z and ZA, and three numbers for each word .. in the report, whose rest stays." A refused one leaves all
+-- as it was
 abbrev pub RunPromise : List ℕ → List ℕ → List ℕ → List ℕ → RunAnswer → List ℕ → List ℕ → List ℕ → Type 0
 RunPromise = runlist.RunPromise

@@ -1,5 +1,5 @@
--- Each promise of the C interface determines the answer, and every byte and number of what was lent: any two results that it allows are equal.
--- Assumes nothing.
+-- Each promise of the C interface determines the answer, and every byte and number that was lent: any two results that it allows are
+-- equal. Assumes nothing.
 use Prim.Native.Nat.{ℕ}
 use mathlib.Core.Path.{_≡_, sym, ap, _∙_}
 use mathlib.Core.List.{List}

@@ -1,5 +1,5 @@
--- The C interface, include/callinglamp.h: what each function answers, and what stands afterwards in each array that it was lent. What decode, encode, partner,
--- execute and run say is what the public calls promise; here it becomes numbers.
+-- The C interface, include/callinglamp.h: what each function answers, and what stands afterwards in each array that it was lent. What is said
+-- is what the public calls promise; here it becomes numbers.
 use Prim.Native.Nat.{ℕ, _+_, _*_, _/_, _%_, _^_, _<_}
 use mathlib.Core.Path.{_≡_}
 use mathlib.Core.Bool.{Bool, true, false, _&&_, cond}

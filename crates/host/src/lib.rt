@@ -1,4 +1,5 @@
-// The C interface: the public calls over numbers and arrays, as include/callinglamp.h declares them. It only unpacks what they take and packs what they answer.
+// The C interface: the public calls over numbers and arrays, as include/callinglamp.h declares them. It only unpacks what they take, and
+// packs what they answer.
 ghost use mathlib.Core.Path.{_≡_};
 ghost use mathlib.Core.Bool.{cond};
 ghost use Rattle.settings.specs.Valid.{validSettings};
@@ -249,8 +250,8 @@ fn ran(answer: RunAnswer, totals: &mut [u32; 3]) -> u64
     }
 }
 
-// Runs a list on Z and ZA, and reports three numbers for each word; `totals` takes the count of words and their tally. Refusals 1, 2, 7 to 10, with the place
-// beside the number.
+// Runs a list on Z and ZA, and reports three numbers for each word; `totals` takes the count of words and their tally. Refusals 1, 2, 7 to
+// 10, with the place beside the number.
 #[no_mangle]
 pub extern "C" fn callinglamp_run(
     list: &[u8],
