@@ -205,6 +205,19 @@ fn written_bits(vl: u32, group: u32, family: Family) -> u32
     }
 }
 
+// k: how many vectors a word writes for a source register.
+fn per_source(family: Family) -> usize
+    ensures { λ r. ⌜ r ≡ perSource family ⌝ }
+{
+    match family {
+        Family::ByElement => 1,
+        Family::Vector => 1,
+        Family::Saturating => 1,
+        Family::LongLong => 4,
+        Family::Long => 2,
+    }
+}
+
 // The registers after the step. Answers how many bits changed.
 fn step_files(settings: Settings, fields: Fields, w: usize, z: &mut [u8], za: &mut [u8]) -> u32
     requires { ⌜ Ready settings (now z) (now za) ⌝ }
@@ -217,8 +230,7 @@ fn step_files(settings: Settings, fields: Fields, w: usize, z: &mut [u8], za: &m
         Family::ByElement => step_half(fields, w, z),
         Family::Vector => step_half(fields, w, z),
         Family::Saturating => step_saturating(fields, w, z),
-        Family::LongLong => step_array(settings, fields, 4, z, za),
-        Family::Long => step_array(settings, fields, 2, z, za),
+        _ => step_array(settings, fields, per_source(family), z, za),
     }
 }
 

@@ -1,11 +1,31 @@
 -- `machine::step_files` meets its contract, family by family. Assumes nothing.
-use mathlib.Core.Path.{sym, ap}
-use mathlib.Core.Logic.{inl, inr}
+use mathlib.Core.Path.{_≡_}
+use mathlib.Core.Logic.{_⊎_, inl, inr, ⊎-elim}
+use Prim.Native.Nat.{ℕ, _<_}
+use native.Mathlib.Omega.{arith}
+use lib.Dec.{lit<}
 use borrow.Author.Needs.{needs}
-use Rattle.recipes.specs.Recipe.{perSource}
-use Rattle.machine.proofs.Stepping.{sources-of, short, places-of, z-done, za-done}
+use Rattle.words.specs.declared.Family.the-variants.{ByElement, Vector, Saturating}
+use Rattle.machine.specs.Loop.{IntoZa}
+use Rattle.machine.proofs.Stepping.{IntoZ, which-file, sources-of, short, places-of, z-done, za-done}
 use Rattle.machine.proofs.step_files.Statement.{statement}
 use Rattle.machine.proofs.step_files.Tie as tie
+
+-- the last arm is that of D and E
+not-early : {tag : ℕ} (n : ℕ) → n < 3 → (tag ≡ 3) ⊎ (tag ≡ 4) → tag ≡ n → ⊥
+not-early n h (inl a) e = omega arith
+not-early n h (inr a) e = omega arith
+
+into-za : (c : tie.At-match-keys4) → IntoZa (c .before .before .before .args .fields)
+into-za c =
+    let f = c .before .before .before .args .fields in
+    ⊎-elim
+    (λ (z : IntoZ f). absurd (⊎-elim
+    (λ (e : f .family ≡ ByElement). not-early 0 (lit< tt) (c .match .keys4) (rw e))
+    (⊎-elim (λ (e : f .family ≡ Vector). not-early 1 (lit< tt) (c .match .keys4) (rw e)) (λ (e : f .family ≡ Saturating). not-early 2 (lit< tt) (c .match .keys4) (rw e)))
+    z))
+    (λ (a : IntoZa f). a)
+    (which-file f)
 
 enum-told : tie.Need-enum-told
 enum-told c = search needs
@@ -34,23 +54,15 @@ step-saturating-requires c κs =
     let s = t .before .before .before .before in
     (sources-of (s .args .settings) (s .args .fields) (s .args .z .now) (s .args .za .now) (s .pre .0) (s .pre .1 .0) (s .args .w) (s .pre .1 .1), (t .enum-told3 .given .1, short (s .args .settings) (s .args .fields) (s .args .z .now) (s .args .za .now) (s .pre .0) (s .pre .1 .0) (s .args .w) (s .pre .1 .1)))
 
-enum-told-4 : tie.Need-enum-told-4
-enum-told-4 c = search needs
+per-source-requires : tie.Need-per-source-requires
+per-source-requires c κs = search needs
 
 step-array-requires : tie.Need-step-array-requires
 step-array-requires c κs =
-    let t = c .before .before in
-    let s = t .before .before .before .before in
-    (places-of (s .args .settings) (s .args .fields) (s .args .z .now) (s .args .za .now) (s .pre .0) (s .pre .1 .0) (s .args .w) (s .pre .1 .1) (inl (t .enum-told4 .given .1)), sym (ap perSource (t .enum-told4 .given .1)))
-
-enum-told-5 : tie.Need-enum-told-5
-enum-told-5 c = search needs
-
-step-array-requires-2 : tie.Need-step-array-requires-2
-step-array-requires-2 c κs =
-    let t = c .before .before in
-    let s = t .before .before .before .before in
-    (places-of (s .args .settings) (s .args .fields) (s .args .z .now) (s .args .za .now) (s .pre .0) (s .pre .1 .0) (s .args .w) (s .pre .1 .1) (inr (t .enum-told5 .given .1)), sym (ap perSource (t .enum-told5 .given .1)))
+    let p = c .before .before in
+    let m = p .before in
+    let s = m .before .before .before in
+    (places-of (s .args .settings) (s .args .fields) (s .args .z .now) (s .args .za .now) (s .pre .0) (s .pre .1 .0) (s .args .w) (s .pre .1 .1) (into-za m), p .per-source .ensures)
 
 same-length : tie.Need-same-length
 same-length c = search needs
@@ -91,22 +103,9 @@ same-length-5 c = search needs
 returns-4 : tie.Need-returns-4
 returns-4 c =
     let r = c .before .before in
-    let t = r .before .before .before in
-    let s = t .before .before .before .before in
-    za-done (s .args .settings) (s .args .fields) (s .args .z .now) (s .args .za .now) (s .pre .0) (s .pre .1 .0) (s .args .w) (s .pre .1 .1) (inl (t .enum-told4 .given .1)) _ _ (r .step-array .ensures .0) (r .step-array .ensures .1)
-
-same-length-6 : tie.Need-same-length-6
-same-length-6 c = search needs
-
-same-length-7 : tie.Need-same-length-7
-same-length-7 c = search needs
-
-returns-5 : tie.Need-returns-5
-returns-5 c =
-    let r = c .before .before in
-    let t = r .before .before .before in
-    let s = t .before .before .before .before in
-    za-done (s .args .settings) (s .args .fields) (s .args .z .now) (s .args .za .now) (s .pre .0) (s .pre .1 .0) (s .args .w) (s .pre .1 .1) (inr (t .enum-told5 .given .1)) _ _ (r .step-array2 .ensures .0) (r .step-array2 .ensures .1)
+    let m = r .before .before .before .before in
+    let s = m .before .before .before in
+    za-done (s .args .settings) (s .args .fields) (s .args .z .now) (s .args .za .now) (s .pre .0) (s .pre .1 .0) (s .args .w) (s .pre .1 .1) (into-za m) _ _ (r .step-array .ensures .0) (r .step-array .ensures .1)
 
 pub step-files-spec : {M : Type 1} → statement M
 step-files-spec =
@@ -118,10 +117,8 @@ step-files-spec =
     step-half-requires-2
     enum-told-3
     step-saturating-requires
-    enum-told-4
+    per-source-requires
     step-array-requires
-    enum-told-5
-    step-array-requires-2
     same-length
     returns
     same-length-2
@@ -130,7 +127,4 @@ step-files-spec =
     returns-3
     same-length-4
     same-length-5
-    returns-4
-    same-length-6
-    same-length-7
-    returns-5)
+    returns-4)
