@@ -169,6 +169,3 @@ toggled-comm = bytes-turned differ differ (two-bits (λ x y. differ x y ≡ diff
 
 pub toggled-same : (s : List ℕ) → toggled s s ≡ 0
 toggled-same = bytes-same differ differ-unmoved
-
-pub toggled-le : (s t : List ℕ) → toggled s t ≤ 8 * length s
-toggled-le = bytes-le differ differ-once

@@ -1,3 +1,4 @@
+// Vectors stepped eight bytes at a time, with the bits that change counted: the V register of A and B, and a ZA vector of D and E.
 ghost use mathlib.Core.Path.{_≡_};
 ghost use mathlib.Core.Bool.{true};
 ghost use mathlib.Core.Logic.{_⊎_};
@@ -61,7 +62,7 @@ fn two(
     a + b * 4294967296
 }
 
-// Eight bytes of the low half of a register, whose elements have twice the lane's 16 or 32 bits. The lanes of the first source lie side by side.
+// Eight bytes of a V register, whose elements have twice the lane's 16 or 32 bits. The lanes of the first source lie side by side.
 fn half_chunk(
     lane: usize,
     unsigned: bool,

@@ -108,7 +108,7 @@ fn step_vector(
     chunks::renew(lane, wide, unsigned, subtract, za, at, z, x, y, w)
 }
 
-// q / k. k is 2 or 4, and a division by a numeral is a shift.
+// q / k, where k is 2 or 4: the vectors of a source register, or the group. A division by a numeral is a shift.
 fn over(q: usize, k: usize) -> usize
     requires { ⌜ (k ≡ 2) ⊎ (k ≡ 4) ⌝ }
     ensures { λ r. ⌜ r ≡ q / k ⌝ }

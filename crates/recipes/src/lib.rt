@@ -16,7 +16,7 @@ pub struct Choice {
     pub from: usize,
 }
 
-// How a written vector is made. Nothing else differs between the families.
+// How a written vector is made. The definitions say it of every family by one; the code builds C's register by it.
 pub struct Recipe {
     pub saturating: bool,
     pub unsigned: bool,

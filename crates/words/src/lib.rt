@@ -425,7 +425,7 @@ fn decode_za(features: Features, w: u32) -> Decoded
 }
 
 // The fields of a word under features alone: for callers that have tested the settings. Each answer is made where it is
-// returned, since fields that pass from one answer into another are copied, which cost more than to find them.
+// returned, since fields that pass from one answer into another are copied, which costs more than finding them.
 pub fn decode_enabled(features: Features, word: u32) -> Decoded
     ensures { λ r. ⌜ decodedSays r ≡ decodeEnabled (features .0) word ⌝ }
 {
