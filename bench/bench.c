@@ -1,4 +1,4 @@
-/* Times the library against the second program, and prints a table. See bench/run. */
+/* Times the library against the second program, and prints a table. See bench/run, and bench/count. */
 #include "growth.h"
 
 #include <stdio.h>
@@ -8,7 +8,7 @@
 enum { WORDS = 64, PASSES = 4 };
 
 static struct {
-    bool quick, check_only, patient;
+    bool quick, once, check_only, patient;
     const char *only;
 } options;
 
@@ -18,7 +18,8 @@ static struct effort effort(void)
 {
     static const struct effort quick = {.rounds = 15, .attempts = 1, .nanoseconds = 1e6};
     static const struct effort full = {.rounds = 31, .attempts = 3, .nanoseconds = 3e6};
-    struct effort e = options.quick ? quick : full;
+    static const struct effort once = {.rounds = 1, .attempts = 1}; /* where the clock does not waver: bench/count */
+    struct effort e = options.once ? once : options.quick ? quick : full;
     e.patient = options.patient;
     return e;
 }
@@ -160,6 +161,8 @@ static void read_options(int count, char **words)
     for (int i = 1; i < count; i++)
         if (strcmp(words[i], "--quick") == 0)
             options.quick = true;
+        else if (strcmp(words[i], "--once") == 0)
+            options.once = true;
         else if (strcmp(words[i], "--check-only") == 0)
             options.check_only = true;
         else if (strcmp(words[i], "--patient") == 0)
@@ -167,7 +170,7 @@ static void read_options(int count, char **words)
         else if (strcmp(words[i], "--only") == 0 && i + 1 < count)
             options.only = words[++i];
         else {
-            fprintf(stderr, "usage: bench [--quick] [--patient] [--check-only] [--only TEXT]\n");
+            fprintf(stderr, "usage: bench [--quick] [--once] [--patient] [--check-only] [--only TEXT]\n");
             exit(2);
         }
 }

@@ -1,15 +1,10 @@
 #define _GNU_SOURCE
 #include "speed.h"
 
+#include "clock.h"
+
 #include <stdint.h>
 #include <time.h>
-
-double now(void)
-{
-    struct timespec t;
-    clock_gettime(CLOCK_MONOTONIC, &t);
-    return 1e9 * (double)t.tv_sec + (double)t.tv_nsec;
-}
 
 /* Four chains of simple steps keep all of a core at work, so that any sharing of it shows in the time. */
 static double time_of_fixed_work(void)

@@ -5,9 +5,6 @@
 
 #include <stdbool.h>
 
-/* Nanoseconds of a clock that only goes forward. */
-double now(void);
-
 /* By the time of some fixed work, beside the least time that it ever took. */
 bool is_at_full_speed(void);
 

@@ -1,6 +1,7 @@
 #define _GNU_SOURCE
 #include "timing.h"
 
+#include "clock.h"
 #include "speed.h"
 
 #include <sched.h>

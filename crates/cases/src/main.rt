@@ -3,7 +3,6 @@
 ghost use Prim.Native.Nat.{_<_};
 use machine::Executed;
 use words::Decoded;
-use words::Family;
 
 // Nineteen numbers of eight digits, and a space or the line's end after each.
 const LINE: usize = 171;
@@ -128,16 +127,6 @@ fn wrong_in(line: &[u8], number: usize, z_room: &mut [u8], za_room: &mut [u8]) -
     1
 }
 
-fn family_number(family: Family) -> u32 {
-    match family {
-        Family::ByElement => 1,
-        Family::Vector => 2,
-        Family::Saturating => 3,
-        Family::LongLong => 4,
-        Family::Long => 5,
-    }
-}
-
 // The family that the line is counted with, 1 to 5 for A to E, or 0 where the line has a refusal.
 fn counted_with(line: &[u8]) -> u32 {
     if stored::number_of(line, REFUSAL) != 0 {
@@ -146,7 +135,7 @@ fn counted_with(line: &[u8]) -> u32 {
     match words::decode(stored::settings_of(line), stored::number_of(line, WORD)) {
         Decoded::Word(fields) => {
             let family = fields.family;
-            family_number(family)
+            words::family_number(family)
         }
         Decoded::Refused(_) => 0,
     }

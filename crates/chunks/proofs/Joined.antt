@@ -1,12 +1,13 @@
 -- Numbers joined of elements, and the elements of a number, for any width. Assumes nothing.
 use mathlib.Core.Path.{_≡_, refl, ap, _∙_}
 use mathlib.Core.List.{List}
-use Prim.Native.Nat.{ℕ, zero, suc, _+_, _-_, _*_, _/_, _%_, _^_, _<_, _≤_}
-use native.Mathlib.Nat.{add-comm, suc-mul, zero-mul, le-refl, mul-le-mul-right}
+use Prim.Native.Nat.{ℕ, zero, suc, _+_, _-_, _*_, _/_, _%_, _^_, _<_}
+use native.Mathlib.Nat.{add-comm, suc-mul, zero-mul, le-refl}
 use native.Mathlib.Omega.{arith}
 use lib.Arith.{digits-div, digits-mod}
 use Rattle.elements.specs.Elements.{elementAt}
 use Rattle.elements.proofs.Elements.{Bytes, elementAt-add, elementAt-lt}
+use Rattle.elements.proofs.Vectors.{within}
 use Rattle.chunks.specs.Chunk.{joined}
 
 pub joined-cong : (f g : ℕ → ℕ) (w n : ℕ) → ((j : ℕ) → j < n → f j ≡ g j) → joined f w n ≡ joined g w n
@@ -38,6 +39,5 @@ middle a w rest at s by =
 pub element-of : (w n j at : ℕ) (s : List ℕ) → Bytes s → j < n → elementAt (n * w) at s / 256 ^ (j * w) % 256 ^ w ≡ elementAt w (at + j * w) s
 element-of w n j at s by h =
     let rest : ℕ = n * w - (j * w + w) in
-    let room : j * w + w ≤ n * w = rw (← suc-mul j w) (mul-le-mul-right w h) in
-    let cut : n * w ≡ j * w + (w + rest) = omega arith in
+    let cut : n * w ≡ j * w + (w + rest) = omega (arith, within j n w h) in
     ap (λ (k : ℕ). elementAt k at s / 256 ^ (j * w) % 256 ^ w) cut ∙ middle (j * w) w rest at s by

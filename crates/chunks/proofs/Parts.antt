@@ -1,12 +1,14 @@
 -- A chunk of one or two elements, from the elements. Assumes nothing.
-use mathlib.Core.Path.{_≡_}
-use mathlib.Core.Logic.{⊎-elim}
+use mathlib.Core.Path.{_≡_, refl}
+use mathlib.Core.Logic.{inl, inr, ⊎-elim}
 use mathlib.Core.Bool.{Bool}
 use mathlib.Core.List.{List}
 use Prim.Native.Nat.{ℕ, _+_, _*_, _/_, _%_, _^_, _<_}
 use native.Mathlib.Omega.{arith}
 use Rattle.elements.specs.Elements.{elementAt}
 use Rattle.lanes.specs.Lane.{laneStep}
+use Rattle.lanes.specs.Widths.{Widths}
+use Rattle.lanes.proofs.Widths.{doubled}
 use Rattle.chunks.specs.Chunk.{joined, partStep, chunk, OfArray}
 
 -- what `element` ensures, where the code has worked out the places by itself
@@ -36,11 +38,25 @@ module _ (lane : ℕ) (u s : Bool) (old : ℕ) (z : List ℕ) (x dx y dy : ℕ) 
 
 -- ---- the lanes of words that write ZA
 
+-- what holds of each pair of widths holds of any
+pub by-array : (P : ℕ → ℕ → Type 0) → P 8 32 → P 16 64 → P 16 32 → (lane wide : ℕ) → OfArray lane wide → P lane wide
+by-array P a b c lane wide o =
+    ⊎-elim (λ (h : (lane ≡ 8) × (wide ≡ 32)). rw (h .0, h .1) a)
+    (⊎-elim (λ (h : (lane ≡ 16) × (wide ≡ 64)). rw (h .0, h .1) b) (λ (h : (lane ≡ 16) × (wide ≡ 32)). rw (h .0, h .1) c))
+    o
+
+pub array-widths : (lane wide : ℕ) → OfArray lane wide → Widths lane wide
+array-widths =
+    by-array Widths
+    (inl refl, (inl (inr (inr refl)), omega arith))
+    (inr (inl refl), (inr refl, omega arith))
+    (doubled 16 (inr (inl refl)))
+
 pub array-64 : (lane wide : ℕ) → OfArray lane wide → wide ≡ 64 → lane ≡ 16
-array-64 lane wide o e = ⊎-elim (λ (h : (lane ≡ 8) × (wide ≡ 32)). absurd (omega (arith, h .1))) (⊎-elim (λ (h : (lane ≡ 16) × (wide ≡ 64)). h .0) (λ (h : (lane ≡ 16) × (wide ≡ 32)). h .0)) o
+array-64 = by-array (λ lane wide. wide ≡ 64 → lane ≡ 16) (λ e. absurd (omega arith)) (λ e. refl) (λ e. refl)
 
 pub array-32 : (lane wide : ℕ) → OfArray lane wide → (wide ≡ 64 → ⊥) → wide ≡ 32
-array-32 lane wide o e = ⊎-elim (λ (h : (lane ≡ 8) × (wide ≡ 32)). h .1) (⊎-elim (λ (h : (lane ≡ 16) × (wide ≡ 64)). absurd (e (h .1))) (λ (h : (lane ≡ 16) × (wide ≡ 32)). h .1)) o
+array-32 = by-array (λ lane wide. (wide ≡ 64 → ⊥) → wide ≡ 32) (λ n. refl) (λ n. absurd (n refl)) (λ n. refl)
 
 pub array-16 : (lane wide : ℕ) → OfArray lane wide → (lane ≡ 8 → ⊥) → lane ≡ 16
-array-16 lane wide o e = ⊎-elim (λ (h : (lane ≡ 8) × (wide ≡ 32)). absurd (e (h .0))) (⊎-elim (λ (h : (lane ≡ 16) × (wide ≡ 64)). h .0) (λ (h : (lane ≡ 16) × (wide ≡ 32)). h .0)) o
+array-16 = by-array (λ lane wide. (lane ≡ 8 → ⊥) → lane ≡ 16) (λ n. absurd (n refl)) (λ n. refl) (λ n. refl)

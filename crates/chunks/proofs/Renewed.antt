@@ -1,6 +1,5 @@
 -- One turn that renews eight bytes in place, and a vector that is renewed so. Assumes nothing.
 use mathlib.Core.Path.{_≡_, refl, sym, ap, _∙_}
-use mathlib.Core.Logic.{⊎-elim}
 use mathlib.Core.Bool.{Bool}
 use mathlib.Core.List.{List}
 use Prim.Native.Nat.{ℕ, _+_, _-_, _*_, _/_, _%_, _^_, _<_, _≤_}
@@ -13,6 +12,7 @@ use lib.Count.{ones}
 use Rattle.elements.specs.Elements.{elementAt, element, putAt}
 use Rattle.elements.specs.Size.{IsLane}
 use Rattle.elements.proofs.Elements.{Bytes, elementAt-same, elementAt-put-after}
+use Rattle.elements.proofs.Lanes.{by-lane}
 use Rattle.elements.proofs.Vectors.{written, written-turn, written-after, written-end, Bytes-vector}
 use Rattle.lanes.specs.Lane.{laneStep}
 use Rattle.bits.specs.Bits.{toggled}
@@ -20,6 +20,7 @@ use Rattle.bits.specs.Replace.{Replaced}
 use Rattle.bits.proofs.Bits.{toggled-same}
 use Rattle.bits.proofs.Put.{Upto, Turned, few-ones, turn, all}
 use Rattle.chunks.specs.Chunk.{strideStep, strideBytes, chunk, OfArray}
+use Rattle.chunks.proofs.Parts.{by-array}
 use Rattle.chunks.proofs.Strides.{Even, even-16, even-32, even-64, chunk-at, bytes-are, bytes-long}
 
 module _ (lane wide w per : ℕ) (ev : Even wide w per) (u s : Bool) (old : List ℕ) (at : ℕ) (z : List ℕ) (x dx y dy bytes : ℕ)
@@ -60,10 +61,10 @@ module _ (lane wide w per : ℕ) (ev : Even wide w per) (u s : Bool) (old : List
 
 -- 16 bytes, of which all is read before any is written
 module _ (lane wide w per : ℕ) (ev : Even wide w per) (u s : Bool) (z : List ℕ) (at x dx y dy : ℕ) (by : Bytes z) (fit : at + 16 ≤ length z) where
-  abbrev Half : List ℕ
-  Half = strideBytes lane wide u s z at z x dx y dy 16
+  abbrev NewV : List ℕ
+  NewV = strideBytes lane wide u s z at z x dx y dy 16
 
-  start : Upto z Half at 0 z
+  start : Upto z NewV at 0 z
   unfolding written
   start = refl
 
@@ -72,7 +73,7 @@ module _ (lane wide w per : ℕ) (ev : Even wide w per) (u s : Bool) (z : List �
       → after ≡ chunk lane wide u s before z x dx y dy → after′ ≡ chunk lane wide u s before′ z px dx py dy
       → before < 2 ^ 64 → after < 2 ^ 64 → before′ < 2 ^ 64 → after′ < 2 ^ 64
       → z1 ≡ putAt 8 at after z → z2 ≡ putAt 8 (at + 8) after′ z1
-      → Replaced at (ones (bitXor before after) + ones (bitXor before′ after′)) Half z z2
+      → Replaced at (ones (bitXor before after) + ones (bitXor before′ after′)) NewV z z2
   both-turns before after before′ after′ px py z1 z2 ex ey eb eb′ ea ea′ lb la lb′ la′ e1 e2 =
       let none : (k d : ℕ) → k ≡ k + 0 / 8 * per * d = λ k d. rw (zero-mul, zero-mul, add-zero) in
       let T =
@@ -104,17 +105,7 @@ module _ (u s : Bool) (z : List ℕ) (at x y dy : ℕ) where
   all-put e new out by l m long ew =
       written-end Own 2 e 8 new out l m long ew ∙ sym (bytes-are 8 16 2 4 even-16 u s z at z x 1 y dy by 2 16 refl)
 
-  pub eight-long : Bytes z → length (strideBytes 8 16 u s z at z x 1 y dy 16) ≡ 16
-  eight-long by = bytes-long 8 16 2 4 even-16 u s z at z x 1 y dy by 2 16 refl
-
 -- ---- the lanes of words that write ZA
-
--- what holds of each pair of widths holds of any
-by-array : (P : ℕ → ℕ → Type 0) → P 8 32 → P 16 64 → P 16 32 → (lane wide : ℕ) → OfArray lane wide → P lane wide
-by-array P a b c lane wide o =
-    ⊎-elim (λ (h : (lane ≡ 8) × (wide ≡ 32)). rw (h .0, h .1) a)
-    (⊎-elim (λ (h : (lane ≡ 16) × (wide ≡ 64)). rw (h .0, h .1) b) (λ (h : (lane ≡ 16) × (wide ≡ 32)). rw (h .0, h .1) c))
-    o
 
 pub even-array : (lane wide : ℕ) → OfArray lane wide → Even wide (wide / 8) (64 / wide)
 even-array = by-array (λ lane wide. Even wide (wide / 8) (64 / wide)) even-32 even-64 even-32
@@ -135,17 +126,13 @@ array-reach =
 pub array-place : (lane wide : ℕ) → OfArray lane wide → (x o : ℕ) → o % 8 ≡ 0 → x + o ≡ x + o / 8 * (64 / wide) * (wide / 8)
 array-place lane wide a x o h = rw (mul-assoc, even-array lane wide a .eight) (omega arith)
 
--- ---- the lanes of words that write the low half of a register
+-- ---- the lanes of words that write a V register
 
-by-lane : (P : ℕ → Type 0) → P 8 → P 16 → P 32 → (lane : ℕ) → IsLane lane → P lane
-by-lane P a b c lane l =
-    ⊎-elim (λ (h : lane ≡ 8). rw h a) (⊎-elim (λ (h : lane ≡ 16). rw h b) (λ (h : lane ≡ 32). rw h c)) l
-
-pub even-half : (lane : ℕ) → IsLane lane → Even (2 * lane) (2 * lane / 8) (64 / (2 * lane))
-even-half = by-lane (λ lane. Even (2 * lane) (2 * lane / 8) (64 / (2 * lane))) even-16 even-32 even-64
+pub even-v : (lane : ℕ) → IsLane lane → Even (2 * lane) (2 * lane / 8) (64 / (2 * lane))
+even-v = by-lane (λ lane. Even (2 * lane) (2 * lane / 8) (64 / (2 * lane))) even-16 even-32 even-64
 
 -- both chunks have their lanes, in the first source and in the second
-pub record HalfPlaces (lane n x y by : ℕ) : Type 0 where
+pub record VPlaces (lane n x y by : ℕ) : Type 0 where
   pub step : by * (lane / 8) ≤ n
   pub first : x + (32 / lane - 1) * (lane / 8) + lane / 8 ≤ n
   pub first-high : x + 4 + (32 / lane - 1) * (lane / 8) + lane / 8 ≤ n
@@ -154,9 +141,9 @@ pub record HalfPlaces (lane n x y by : ℕ) : Type 0 where
   pub place : x + 4 ≡ x + 8 / 8 * (64 / (2 * lane)) * (lane / 8)
   pub place-second : y + 4 * by ≡ y + 8 / 8 * (64 / (2 * lane)) * (by * (lane / 8))
 
-pub half-places : (lane : ℕ) → IsLane lane → (n x y by : ℕ) → x + 8 ≤ n → y + (64 / lane - 1) * (by * (lane / 8)) + lane / 8 ≤ n → HalfPlaces lane n x y by
-half-places =
-    by-lane (λ lane. (n x y by : ℕ) → x + 8 ≤ n → y + (64 / lane - 1) * (by * (lane / 8)) + lane / 8 ≤ n → HalfPlaces lane n x y by)
+pub v-places : (lane : ℕ) → IsLane lane → (n x y by : ℕ) → x + 8 ≤ n → y + (64 / lane - 1) * (by * (lane / 8)) + lane / 8 ≤ n → VPlaces lane n x y by
+v-places =
+    by-lane (λ lane. (n x y by : ℕ) → x + 8 ≤ n → y + (64 / lane - 1) * (by * (lane / 8)) + lane / 8 ≤ n → VPlaces lane n x y by)
     (λ n x y by h k. record { step = omega arith; first = omega arith; first-high = omega arith; second = omega arith; second-high = omega arith; place = omega arith; place-second = omega arith })
     (λ n x y by h k. record { step = omega arith; first = omega arith; first-high = omega arith; second = omega arith; second-high = omega arith; place = omega arith; place-second = omega arith })
     (λ n x y by h k. record { step = omega arith; first = omega arith; first-high = omega arith; second = omega arith; second-high = omega arith; place = omega arith; place-second = omega arith })

@@ -2,14 +2,14 @@
 use mathlib.Core.Path.{_≡_, refl, sym, ap, _∙_}
 use mathlib.Core.Bool.{Bool}
 use mathlib.Core.List.{List}
-use Prim.Native.Nat.{ℕ, suc, _+_, _*_, _/_, _%_, _^_, _<_}
-use native.Mathlib.Nat.{add-mul, mul-assoc, mod-eq-of-lt, mul-le-mul-right, suc-mul, mul-div-cancel}
+use Prim.Native.Nat.{ℕ, _+_, _*_, _/_, _%_, _^_, _<_}
+use native.Mathlib.Nat.{add-mul, mul-assoc, mod-eq-of-lt, mul-div-cancel}
 use native.Mathlib.Omega.{arith}
 use lib.Dec.{lit<}
 use lib.ListN.{length}
 use Rattle.elements.specs.Elements.{elementAt, vector}
 use Rattle.elements.proofs.Elements.{Bytes}
-use Rattle.elements.proofs.Vectors.{length-vector, vector-element}
+use Rattle.elements.proofs.Vectors.{within, length-vector, vector-element}
 use Rattle.lanes.proofs.Laws.{laneStep-lt}
 use Rattle.chunks.specs.Chunk.{strideStep, strideBytes, partStep, chunk}
 use Rattle.chunks.proofs.Joined.{joined-cong, elements-joined, element-of}
@@ -65,7 +65,7 @@ module _ (lane wide w per : ℕ) (ev : Even wide w per) (u s : Bool) (old : List
       λ j q.
       part c j before px py q eb ex ey
       ∙ sym (ap (λ (k : ℕ). elementAt w k (vector F w (n * per))) (sym (place c j))
-      ∙ vector-element F w (n * per) (c * per + j) (omega (arith, suc-mul c per, mul-le-mul-right {m = suc c} {n = n} per h))
+      ∙ vector-element F w (n * per) (c * per + j) (omega (arith, within c n per h))
       ∙ mod-eq-of-lt (small (c * per + j))) in
       rw (ev .bytes, ev .many)
       (joined-cong (partStep lane wide u s before z px dx py dy) (λ j. elementAt w (8 * c + j * w) (vector F w (n * per))) w per all

@@ -1,13 +1,12 @@
 // Vectors stepped eight bytes at a time, with the bits that change counted: the V register of A and B, and a ZA vector of D and E.
 ghost use mathlib.Core.Path.{_≡_};
-ghost use mathlib.Core.Bool.{true};
 ghost use mathlib.Core.Logic.{_⊎_};
-ghost use Prim.Native.Nat.{_+_, _-_, _*_, _/_, _%_, _^_, _<_, _≤_};
+ghost use Prim.Native.Nat.{_+_, _*_, _/_, _%_, _^_, _<_, _≤_};
 ghost use lib.ListN.{length};
 ghost use Rattle.elements.specs.Elements.{elementAt};
 ghost use Rattle.elements.specs.Size.{IsLane};
 ghost use Rattle.lanes.specs.Lane.{laneStep};
-ghost use Rattle.lanes.specs.Widths.{widths};
+ghost use Rattle.lanes.specs.Widths.{Widths};
 ghost use Rattle.bits.specs.Replace.{Replaced};
 ghost use Rattle.chunks.specs.Chunk.{chunk, strideBytes, Reach, OfArray};
 
@@ -22,7 +21,7 @@ fn element(
     x: usize,
     y: usize,
 ) -> u64
-    requires { ⌜ IsLane lane × (widths lane wide ≡ true) ⌝ }
+    requires { ⌜ Widths lane wide ⌝ }
     requires { ⌜ old < 2 ^ wide ⌝ }
     requires { ⌜ (x + lane / 8 ≤ length (now z)) × (y + lane / 8 ≤ length (now z)) ⌝ }
     ensures { λ r. ⌜ (r ≡ laneStep lane wide unsigned subtract old (elementAt (lane / 8) x (now (z .entry))) (elementAt (lane / 8) y (now (z .entry)))) × (r < 2 ^ wide) ⌝ }
@@ -44,7 +43,7 @@ fn two(
     y: usize,
     dy: usize,
 ) -> u64
-    requires { ⌜ IsLane lane × (widths lane 32 ≡ true) ⌝ }
+    requires { ⌜ Widths lane 32 ⌝ }
     requires { ⌜ Reach lane 2 (now z) x dx × Reach lane 2 (now z) y dy ⌝ }
     ensures { λ r. ⌜ r ≡ chunk lane 32 unsigned subtract old (now (z .entry)) x dx y dy ⌝ }
 {
@@ -63,7 +62,7 @@ fn two(
 }
 
 // Eight bytes of a V register, whose elements have twice the lane's 16 or 32 bits. The lanes of the first source lie side by side.
-fn half_chunk(
+fn v_chunk(
     lane: usize,
     unsigned: bool,
     subtract: bool,
@@ -177,8 +176,8 @@ fn renew_wider(
     let dy = by * (lane / 8);
     let old = elements::read8(z, at);
     let old_high = elements::read8(z, at + 8);
-    let new = half_chunk(lane, unsigned, subtract, old, z, x, y, dy);
-    let new_high = half_chunk(lane, unsigned, subtract, old_high, z, x + 4, y + 4 * by, dy);
+    let new = v_chunk(lane, unsigned, subtract, old, z, x, y, dy);
+    let new_high = v_chunk(lane, unsigned, subtract, old_high, z, x + 4, y + 4 * by, dy);
     elements::put8(z, at, new);
     elements::put8(z, at + 8, new_high);
     u64::count_ones(old ^ new) + u64::count_ones(old_high ^ new_high)
@@ -186,7 +185,7 @@ fn renew_wider(
 
 // A, B: the 16 bytes of z from `at` on become new. Element e, of twice the lane's bits, takes the product of the lanes number e from byte x on and
 // number e·by from byte y on. All is read before the first byte is written, since the destination may be a source. Answers how many bits changed.
-pub fn renew_half(
+pub fn renew_v(
     lane: usize,
     unsigned: bool,
     subtract: bool,

@@ -208,14 +208,18 @@ module _ (place : ℕ → ℕ) (new : ℕ → List ℕ) (w n : ℕ) (s : List �
     wide = λ q h. P .wide q (omega arith);
   }
 
+  -- the last of them is in the file
+  pub fit-in : (count : ℕ) → Placed place new w n (suc count) s → place count * w + length (new count) ≤ length s
+  fit-in count P =
+      let last : count < suc count = le-refl (suc count) in
+      rw (P .wide count last, P .long) (within (place count) n w (P .inside count last))
+
   pub length-replaced : (count : ℕ) → Placed place new w n count s → length (replaced place new w count s) ≡ length s
   unfolding replaced
   length-replaced zero P = refl
   length-replaced (suc count) P =
       let l = length-replaced count (fewer count P) in
-      length-splice (place count * w) (new count) (R count)
-      (rw (P .wide count (le-refl (suc count)), l, P .long) (within (place count) n w (P .inside count (le-refl (suc count)))))
-      ∙ l
+      length-splice (place count * w) (new count) (R count) (rw l (fit-in count P)) ∙ l
 
   pub Bytes-replaced : (count : ℕ) → ((q : ℕ) → q < count → Bytes (new q)) → Bytes s → Bytes (replaced place new w count s)
   unfolding replaced
@@ -223,9 +227,10 @@ module _ (place : ℕ → ℕ) (new : ℕ → List ℕ) (w n : ℕ) (s : List �
   Bytes-replaced (suc count) h b i =
       Bytes-splice (place count * w) (new count) (R count) (h count (le-refl (suc count))) (Bytes-replaced count (λ q p. h q (omega arith)) b) i
 
-  -- the next one is in the file as it then is
+  -- the last of them is in the file as it then is, too
   next-room : (count : ℕ) → Placed place new w n (suc count) s → (place count + 1) * w ≤ length (replaced place new w count s)
-  next-room count P = rw (length-replaced count (fewer count P)) (room (place count) n w s (P .long) (P .inside count (le-refl (suc count))))
+  next-room count P =
+      omega (arith, next (place count) w, fit-in count P, P .wide count (le-refl (suc count)), length-replaced count (fewer count P))
 
   -- a vector that none of them replaces is as it was
   pub replaced-out : (count v : ℕ) → Placed place new w n count s → ((q : ℕ) → q < count → place q ≢ v)

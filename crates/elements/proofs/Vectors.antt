@@ -11,7 +11,7 @@ use lib.Seq.{set-at, set-getD, drop-cons, drop-drop, length-take-le}
 use lib.Arith.{digits-div, digits-mod, mod-mul}
 use lib.Dec.{lit<}
 use Rattle.elements.specs.Elements.{elementAt, element, putAt, lowBytes, vector, splice}
-use Rattle.elements.proofs.Elements.{Bytes, Bytes-append, Bytes-lowBytes, pow256-pos, elementAt-lt, length-put, put-before, put-after, elementAt-put, elementAt-put-before}
+use Rattle.elements.proofs.Elements.{Bytes, Bytes-append, Bytes-lowBytes, pow256-pos, elementAt-lt, length-put, put-after, elementAt-put, elementAt-put-before}
 
 -- the last of count elements ends within them
 pub within : (e count k : ℕ) → e < count → e * k + k ≤ count * k
@@ -61,11 +61,6 @@ module _ (f : ℕ → ℕ) (k base : ℕ) (s : List ℕ) where
   unfolding written
   length-written zero = refl
   length-written (suc n) = length-put _ _ _ k ∙ length-written n
-
-  pub written-before : (n i : ℕ) → i < base → getD (written f k base n s) i 0 ≡ getD s i 0
-  unfolding written
-  written-before zero i h = refl
-  written-before (suc n) i h = put-before (base + n * k) (f n) (W n) k i (omega arith) ∙ written-before n i h
 
   pub written-after : (n i : ℕ) → base + n * k ≤ i → getD (written f k base n s) i 0 ≡ getD s i 0
   unfolding written

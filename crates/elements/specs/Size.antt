@@ -2,8 +2,12 @@
 use Prim.Native.Nat.{ℕ}
 use mathlib.Core.Path.{_≡_}
 use mathlib.Core.Logic.{_⊎_}
-use Rattle.elements.specs.declared.Size.{Size}
-use Rattle.elements.specs.declared.Size.the-variants.{Bits8, Bits16, Bits32, Bits64}
+
+pub data Size : Type 0 where
+  Bits8 : Size
+  Bits16 : Size
+  Bits32 : Size
+  Bits64 : Size
 
 -- in bits
 abbrev pub bitsOf : Size → ℕ

@@ -1,40 +1,8 @@
 ghost use mathlib.Core.Path.{_≡_};
 ghost use Prim.Native.Nat.{_+_, _/_, _%_, _^_, _<_, _≤_};
 ghost use lib.ListN.{length};
-ghost use Rattle.elements.specs.Size.{bitsOf, bytesOf, perHalf, IsLane};
+ghost use Rattle.elements.specs.Size.{IsLane};
 ghost use Rattle.elements.specs.Elements.{elementAt, putAt};
-
-// The sizes of an element.
-pub enum Size {
-    Bits8,
-    Bits16,
-    Bits32,
-    Bits64,
-}
-
-// The bytes of an element.
-pub fn bytes_of(size: Size) -> usize
-    ensures { λ r. ⌜ r ≡ bytesOf size ⌝ }
-{
-    match size {
-        Size::Bits8 => 1,
-        Size::Bits16 => 2,
-        Size::Bits32 => 4,
-        Size::Bits64 => 8,
-    }
-}
-
-// The elements in 64 bits.
-pub fn per_half(size: Size) -> usize
-    ensures { λ r. ⌜ r ≡ perHalf size ⌝ }
-{
-    match size {
-        Size::Bits8 => 8,
-        Size::Bits16 => 4,
-        Size::Bits32 => 2,
-        Size::Bits64 => 1,
-    }
-}
 
 // A byte as a wide number; with its bound, the sums and products of the reads fit.
 fn wide(x: u8) -> u64
@@ -70,32 +38,12 @@ fn read4(s: &[u8], at: usize) -> u64
     read2(s, at) + read2(s, at + 2) * 65536
 }
 
-// Eight bytes as a number.
+// Eight bytes as a number. Sums and products by numerals: the compiler makes one load of them.
 pub fn read8(s: &[u8], at: usize) -> u64
     requires { ⌜ at + 8 ≤ length (now s) ⌝ }
     ensures { λ r. ⌜ (r ≡ elementAt 8 at (now (s .entry))) × (r < 2 ^ 64) ⌝ }
 {
     read4(s, at) + read4(s, at + 4) * 4294967296
-}
-
-// The element at a place. Sums and products by numerals: the compiler makes one load of them.
-pub fn element_at(s: &[u8], at: usize, size: Size) -> u64
-    requires { ⌜ at + bytesOf size ≤ length (now s) ⌝ }
-    ensures { λ r. ⌜ (r ≡ elementAt (bytesOf size) at (now (s .entry))) × (r < 2 ^ bitsOf size) ⌝ }
-{
-    match size {
-        Size::Bits8 => read1(s, at),
-        Size::Bits16 => read2(s, at),
-        Size::Bits32 => read4(s, at),
-        Size::Bits64 => read8(s, at),
-    }
-}
-
-fn put1(s: &mut [u8], at: usize, v: u64)
-    requires { ⌜ at + 1 ≤ length (now s) ⌝ }
-    ensures { λ r. ⌜ now (s .exit) ≡ putAt 1 at v (now (s .entry)) ⌝ }
-{
-    s[at] = low(v);
 }
 
 // Two bytes become the low ones of v.
@@ -107,7 +55,8 @@ pub fn put2(s: &mut [u8], at: usize, v: u64)
     s[at + 1] = low(v / 256);
 }
 
-fn put4(s: &mut [u8], at: usize, v: u64)
+// Four bytes become the low ones of v.
+pub fn put4(s: &mut [u8], at: usize, v: u64)
     requires { ⌜ at + 4 ≤ length (now s) ⌝ }
     ensures { λ r. ⌜ now (s .exit) ≡ putAt 4 at v (now (s .entry)) ⌝ }
 {
@@ -122,19 +71,6 @@ pub fn put8(s: &mut [u8], at: usize, v: u64)
 {
     put4(s, at, v);
     put4(s, at + 4, v / 4294967296);
-}
-
-// The element at a place becomes v, cut to its size.
-pub fn put_element(s: &mut [u8], at: usize, size: Size, v: u64)
-    requires { ⌜ at + bytesOf size ≤ length (now s) ⌝ }
-    ensures { λ r. ⌜ now (s .exit) ≡ putAt (bytesOf size) at v (now (s .entry)) ⌝ }
-{
-    match size {
-        Size::Bits8 => put1(s, at, v),
-        Size::Bits16 => put2(s, at, v),
-        Size::Bits32 => put4(s, at, v),
-        Size::Bits64 => put8(s, at, v),
-    }
 }
 
 // The lane of 8, 16 or 32 bits at a place. Its size is a number, by value, so that where it is a literal the compiler leaves one load.

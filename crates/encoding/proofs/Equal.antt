@@ -1,33 +1,16 @@
 -- Fields that pass encode's test are the same fields, and what the test says of a word and of the candidate. Assumes nothing.
 use Prim.Native.Nat.{ℕ, _^_, _<_}
 use mathlib.Core.Path.{_≡_, refl, sym, ap, _∙_}
-use mathlib.Core.Bool.{Bool, true, false, Bool·beq, cond}
+use mathlib.Core.Bool.{Bool, true, false, Bool·beq}
 use lib.Dec.{eqb}
 use borrow.Author.Tests.{eqb-true, eq-eqb}
 use Rattle.laws.proofs.Tests.{both, never-both}
-use Rattle.words.specs.Says.{describe}
-use Rattle.words.specs.declared.Family.{Family}
-use Rattle.words.specs.declared.Family.the-variants.{ByElement, Vector, Saturating, LongLong, Long}
+use Rattle.words.specs.Says.{Described, As, Nothing, describe}
 use Rattle.words.specs.declared.Fields.{Fields}
-use Rattle.words.specs.declared.Described.{Described}
-use Rattle.words.specs.declared.Described.the-variants.{As, Nothing}
+use Rattle.words.proofs.Families.{family-eq}
 use Rattle.encoding.specs.Encode.{Has}
-use Rattle.encoding.specs.Candidate.{familyNumber, sameOf, saysOnly, candidateOf}
+use Rattle.encoding.specs.Candidate.{sameOf, saysOnly, candidateOf}
 use Rattle.encoding.proofs.Only.{only}
-
-familyOf : ℕ → Family
-familyOf n = cond (eqb n 1) ByElement (cond (eqb n 2) Vector (cond (eqb n 3) Saturating (cond (eqb n 4) LongLong Long)))
-
-family-back : (a : Family) → familyOf (familyNumber a) ≡ a
-unfolding familyOf
-family-back ByElement = refl
-family-back Vector = refl
-family-back Saturating = refl
-family-back LongLong = refl
-family-back Long = refl
-
-family-eq : (a b : Family) → familyNumber a ≡ familyNumber b → a ≡ b
-family-eq a b e = sym (family-back a) ∙ ap familyOf e ∙ family-back b
 
 bool-eq : (a b : Bool) → Bool·beq a b ≡ true → a ≡ b
 bool-eq true true e = refl
@@ -72,7 +55,7 @@ same-eq f g e =
 pub same-refl : (f : Fields) → sameOf f f ≡ true
 same-refl f = simp (bool-refl, number-refl)
 
-says-eq : (f : Fields) (d : Described) → saysOnly f d ≡ true → d ≡ As f
+pub says-eq : (f : Fields) (d : Described) → saysOnly f d ≡ true → d ≡ As f
 says-eq f (As g) e = ap As (sym (same-eq f g e))
 says-eq f Nothing e = absurd (never-both _ e refl)
 

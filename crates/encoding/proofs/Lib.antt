@@ -1,3 +1,4 @@
 pub mod Only
 pub mod Equal
+pub mod Own
 pub mod Theorems

@@ -13,9 +13,8 @@ use Rattle.laws.proofs.Tests.{by-cond, cond-holds, either, never-both}
 use Rattle.layouts.specs.Layout.{Layout, size, matches, value, build}
 use Rattle.layouts.proofs.Inverse.{Agrees, build-agrees}
 use Rattle.words.specs.Rows.{rowA, rowB, rowC16, rowC32, rowD2, rowD4, rowE2, rowE4}
-use Rattle.words.specs.Says.{isOne, Row, entry, entryA, entryB, table, saysFirst, describe, fieldsA16, fieldsA32, fieldsB, fieldsC, fieldsD, fieldsE}
+use Rattle.words.specs.Says.{As, isOne, Row, entry, entryA, entryB, table, saysFirst, describe, fieldsA16, fieldsA32, fieldsB, fieldsC, fieldsD, fieldsE}
 use Rattle.words.specs.declared.Fields.{Fields}
-use Rattle.words.specs.declared.Described.the-variants.{As}
 use Rattle.words.proofs.Table.{found, never}
 use Rattle.encoding.specs.Candidate.{bitOf, candidateOf, valuesA16, valuesA32, valuesB, valuesC16, valuesC32, valuesD, valuesE}
 

@@ -6,11 +6,11 @@ use mathlib.Core.Bool.{Bool, true, false, _&&_, cond, Bool·beq}
 use lib.Dec.{eqb}
 use Rattle.layouts.specs.Layout.{Layout, row, build}
 use Rattle.words.specs.Rows.{rowA, rowB, rowC16, rowC32, rowD2, rowD4, rowE2, rowE4}
+use Rattle.words.specs.Families.{familyNumber}
 use Rattle.words.specs.declared.Family.{Family}
 use Rattle.words.specs.declared.Family.the-variants.{ByElement, Vector, Saturating, LongLong, Long}
 use Rattle.words.specs.declared.Fields.{Fields}
-use Rattle.words.specs.declared.Described.{Described}
-use Rattle.words.specs.declared.Described.the-variants.{As, Nothing}
+use Rattle.words.specs.Says.{Described, As, Nothing}
 
 abbrev pub bitOf : Bool → ℕ
 bitOf true = 1
@@ -79,13 +79,6 @@ abbrev pub candidateOf : Fields → ℕ
 candidateOf f = candidateBy (f .family) f
 
 -- ---- the test
-
-abbrev pub familyNumber : Family → ℕ
-familyNumber ByElement = 1
-familyNumber Vector = 2
-familyNumber Saturating = 3
-familyNumber LongLong = 4
-familyNumber Long = 5
 
 abbrev pub sameFamily : Family → Family → Bool
 sameFamily a b = eqb (familyNumber a) (familyNumber b)

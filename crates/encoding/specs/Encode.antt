@@ -5,10 +5,9 @@ use mathlib.Core.Bool.{true, false}
 use Rattle.settings.specs.Valid.{validSettings}
 use Rattle.settings.specs.Refused.{refusalNumber}
 use Rattle.settings.specs.declared.Settings.{Settings}
-use Rattle.words.specs.Says.{describe}
+use Rattle.words.specs.Says.{As, describe}
 use Rattle.words.specs.Decode.{enables}
 use Rattle.words.specs.declared.Fields.{Fields}
-use Rattle.words.specs.declared.Described.the-variants.{As}
 use Rattle.encoding.specs.declared.Encoded.{Encoded}
 use Rattle.encoding.specs.declared.Encoded.the-variants.{Word, Refused}
 

@@ -4,11 +4,10 @@ ghost use Rattle.layouts.specs.Layout.{build};
 ghost use Rattle.words.specs.Rows.{rowA, rowB, rowC16, rowC32, rowD2, rowD4, rowE2, rowE4};
 ghost use Rattle.words.specs.Says.{describe};
 ghost use Rattle.encoding.specs.Encode.{Encodes, encodedSays};
-ghost use Rattle.encoding.specs.Candidate.{bitOf, valuesA, valuesA16, valuesA32, valuesB, lowC, valuesC, valuesC16, valuesC32, lowZa2, lowZa4, valuesZa, valuesD, valuesE, candidateOf, familyNumber, sameFamily, sameOf, saysOnly};
+ghost use Rattle.encoding.specs.Candidate.{bitOf, valuesA, valuesA16, valuesA32, valuesB, lowC, valuesC, valuesC16, valuesC32, lowZa2, lowZa4, valuesZa, valuesD, valuesE, candidateOf, sameFamily, sameOf, saysOnly};
 use layouts::*;
 use settings::Refusal;
 use settings::Settings;
-use words::Described;
 use words::Family;
 use words::Fields;
 
@@ -179,22 +178,10 @@ fn candidate(f: Fields) -> u32
     }
 }
 
-fn family_number(family: Family) -> u32
-    ensures { λ r. ⌜ r ≡ familyNumber family ⌝ }
-{
-    match family {
-        Family::ByElement => 1,
-        Family::Vector => 2,
-        Family::Saturating => 3,
-        Family::LongLong => 4,
-        Family::Long => 5,
-    }
-}
-
 fn same_family(a: Family, b: Family) -> bool
     ensures { λ r. ⌜ r ≡ sameFamily a b ⌝ }
 {
-    family_number(a) == family_number(b)
+    words::family_number(a) == words::family_number(b)
 }
 
 fn same(f: Fields, g: Fields) -> bool
@@ -216,14 +203,49 @@ fn same(f: Fields, g: Fields) -> bool
         & same_family(a, b)
 }
 
-// Whether the word has exactly these fields.
-fn has(word: u32, fields: Fields) -> bool
-    ensures { λ r. ⌜ r ≡ saysOnly fields (describe word) ⌝ }
+// Whether the candidate has exactly these fields. Only the row that it was built by is asked: no word has two. B's fields are
+// read with the lane that is asked for, so that lanes which no word of B has are turned away before.
+fn has(word: u32, f: Fields) -> bool
+    requires { ⌜ word ≡ candidateOf f ⌝ }
+    ensures { λ r. ⌜ r ≡ saysOnly f (describe word) ⌝ }
 {
-    let described = words::describe(word);
-    match described {
-        Described::As(found) => same(fields, found),
-        Described::Nothing => false,
+    let family = f.family;
+    match family {
+        Family::ByElement => {
+            if f.lane == 16 {
+                same(f, words::fields_a16(word))
+            } else {
+                same(f, words::fields_a32(word))
+            }
+        }
+        Family::Vector => {
+            if (f.lane == 8) | (f.lane == 16) | (f.lane == 32) {
+                same(f, words::fields_b(word, f.lane))
+            } else {
+                false
+            }
+        }
+        Family::Saturating => {
+            if f.lane == 16 {
+                same(f, words::fields_c16(word))
+            } else {
+                same(f, words::fields_c32(word))
+            }
+        }
+        Family::LongLong => {
+            if f.group == 2 {
+                same(f, words::fields_d2(word))
+            } else {
+                same(f, words::fields_d4(word))
+            }
+        }
+        Family::Long => {
+            if f.group == 2 {
+                same(f, words::fields_e2(word))
+            } else {
+                same(f, words::fields_e4(word))
+            }
+        }
     }
 }
 

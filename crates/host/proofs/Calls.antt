@@ -17,7 +17,7 @@ use Rattle.runlist.specs.Plan.{settingsOf}
 use Rattle.runlist.specs.RunList.{Ended}
 use Rattle.runlist.specs.declared.RunAnswer.{RunAnswer}
 use Rattle.runlist.specs.declared.RunAnswer.the-variants as answer
-use Rattle.runlist.proofs.Theorems.{run-small}
+use Rattle.demands.proofs.Lists.{run-small}
 use Rattle.callinglamp.specs.Promises.{DecodePromise, EncodePromise, PartnerPromise, ExecutePromise, RunPromise}
 use Rattle.host.specs.Host.{halves, fieldsOf, decodedInto, hostDecode, HostDecode, EncodesNumbers, HostEncode, HostPartner, executedInto, hostExecute, HostExecute, ranInto, hostRun, HostRun, ExecutedPut, RanPut, Fits}
 use Rattle.host.specs.declared.FieldsOf.the-variants.{Are, Nothing}

@@ -15,11 +15,13 @@ use Rattle.words.specs.declared.Family.{Family}
 use Rattle.words.specs.declared.Family.the-variants.{ByElement, Vector, Saturating, LongLong, Long}
 use Rattle.words.specs.declared.Fields.{Fields}
 use Rattle.machine.specs.Execute.{executePaper}
-use Rattle.machine.proofs.Theorems as machine
 use Rattle.runlist.specs.Plan.{settingsOf}
 use Rattle.runlist.specs.RunList.{runPaper}
-use Rattle.runlist.proofs.Theorems as runlist
-use Rattle.host.specs.Host.{halves, familyNumber, boolNumber, fieldNumbers, familyOf, areFields, fieldsWith, fieldsOf, hostDecode, HostExecuted, hostExecute, HostRan, hostRun}
+use Rattle.demands.proofs.Execution as execution
+use Rattle.demands.proofs.Lists as lists
+use Rattle.words.specs.Families.{familyNumber, familyOf}
+use Rattle.words.proofs.Families.{family-back}
+use Rattle.host.specs.Host.{halves, boolNumber, fieldNumbers, areFields, fieldsWith, fieldsOf, hostDecode, HostExecuted, hostExecute, HostRan, hostRun}
 use Rattle.host.specs.Theorems.{HalvesBack, AnswerBack, FieldsBack, NumbersBack, DecodeKeeps, ExecuteKeeps, RunKeeps}
 use Rattle.host.specs.declared.FieldsOf.{FieldsOf}
 use Rattle.host.specs.declared.FieldsOf.the-variants.{Are, Nothing}
@@ -35,18 +37,13 @@ answer-back answer = div-add-mod' answer (2 ^ 32)
 
 -- ---- fields and their numbers
 
--- a family's number is from 1 to 5, and stands for the family
-record FamilyBack (g : Family) : Type 0 where
-  least : leb 1 (familyNumber g) ≡ true
-  most : leb (familyNumber g) 5 ≡ true
-  back : familyOf (familyNumber g) ≡ g
-
-family-back : (g : Family) → FamilyBack g
-family-back ByElement = record { least = refl; most = refl; back = refl }
-family-back Vector = record { least = refl; most = refl; back = refl }
-family-back Saturating = record { least = refl; most = refl; back = refl }
-family-back LongLong = record { least = refl; most = refl; back = refl }
-family-back Long = record { least = refl; most = refl; back = refl }
+-- a family's number is from 1 to 5
+family-number : (g : Family) → (leb 1 (familyNumber g) ≡ true) × (leb (familyNumber g) 5 ≡ true)
+family-number ByElement = (refl, refl)
+family-number Vector = (refl, refl)
+family-number Saturating = (refl, refl)
+family-number LongLong = (refl, refl)
+family-number Long = (refl, refl)
 
 bool-back : (b : Bool) → (leb (boolNumber b) 1 ≡ true) × (eqb (boolNumber b) 1 ≡ b)
 bool-back true = (refl, refl)
@@ -55,10 +52,10 @@ bool-back false = (refl, refl)
 pub fields-back : FieldsBack
 unfolding fieldsOf
 fields-back f =
-    let g = family-back (f .family) in
+    let g = family-number (f .family) in
     let u = bool-back (f .unsigned) in
     let s = bool-back (f .subtract) in
-    rw (g .least, g .most, u .0, s .0, g .back, u .1, s .1)
+    rw (g .0, g .1, u .0, s .0, family-back (f .family), u .1, s .1)
 
 -- a number from 1 to 5 is that of its family, and one up to 1 that of its bool
 number-family : (n : ℕ) → 1 ≤ n → n ≤ 5 → familyNumber (familyOf n) ≡ n
@@ -120,7 +117,7 @@ unfolding hostExecute
 execute-keeps settings word z za counts r z′ za′ counts′ e h =
     let o = executePaper (settingsOf settings) word z za in
     let number : halves r .0 ≡ o .number = ap (λ (x : HostExecuted). x .answer .0) e in
-    let kept = machine.refused-keeps (settingsOf settings) word z za (λ n. h (number ∙ n)) in (
+    let kept = execution.refused-keeps (settingsOf settings) word z za (λ n. h (number ∙ n)) in (
       ap (λ (x : HostExecuted). x .z) e ∙ kept .0,
       ap (λ (x : HostExecuted). x .za) e ∙ kept .1,
       ap (λ (x : HostExecuted). x .counts) e ∙ rw (ne-eqb (o .number) 0 (λ n. h (number ∙ n))),
@@ -131,7 +128,7 @@ unfolding hostRun
 run-keeps list z za report totals r z′ za′ report′ totals′ e h =
     let o = runPaper list z za report in
     let number : halves r .0 ≡ o .number = ap (λ (x : HostRan). x .answer .0) e in
-    let kept = runlist.refused-keeps list z za report (λ n. h (number ∙ n)) in (
+    let kept = lists.refused-keeps list z za report (λ n. h (number ∙ n)) in (
       ap (λ (x : HostRan). x .z) e ∙ kept .0,
       ap (λ (x : HostRan). x .za) e ∙ kept .1,
       ap (λ (x : HostRan). x .report) e ∙ kept .2,

@@ -8,10 +8,10 @@ use lib.Dec.{eqb, leb}
 use lib.ListN.{getD}
 use Rattle.settings.specs.Valid.{validSettings}
 use Rattle.settings.specs.declared.Settings.{Settings}
+use Rattle.words.specs.Families.{familyNumber, familyOf}
 use Rattle.words.specs.Decode.{decodePaper}
 use Rattle.words.specs.Partner.{partnerPaper}
 use Rattle.words.specs.declared.Family.{Family}
-use Rattle.words.specs.declared.Family.the-variants.{ByElement, Vector, Saturating, LongLong, Long}
 use Rattle.words.specs.declared.Fields.{Fields}
 use Rattle.encoding.specs.Encode.{Encodes}
 use Rattle.machine.specs.Execute.{Outcome, executedSays, executePaper}
@@ -36,13 +36,6 @@ halves answer = (answer % 2 ^ 32, answer / 2 ^ 32)
 
 -- ---- fields are twelve numbers
 
-abbrev pub familyNumber : Family → ℕ
-familyNumber ByElement = 1
-familyNumber Vector = 2
-familyNumber Saturating = 3
-familyNumber LongLong = 4
-familyNumber Long = 5
-
 abbrev pub boolNumber : Bool → ℕ
 boolNumber true = 1
 boolNumber false = 0
@@ -51,10 +44,6 @@ abbrev pub fieldNumbers : Fields → List ℕ
 fieldNumbers f =
     familyNumber (f .family) ∷ boolNumber (f .unsigned) ∷ boolNumber (f .subtract) ∷ f .lane ∷ f .part ∷ f .index
     ∷ f .destination ∷ f .first ∷ f .second ∷ f .group ∷ f .select ∷ f .offset ∷ []
-
--- the family of a number from 1 to 5
-abbrev pub familyOf : ℕ → Family
-familyOf n = cond (eqb n 1) ByElement (cond (eqb n 2) Vector (cond (eqb n 3) Saturating (cond (eqb n 4) LongLong Long)))
 
 -- whether there are fields of which these are the numbers
 abbrev pub areFields : List ℕ → Bool

@@ -4,10 +4,11 @@ ghost use mathlib.Core.Path.{_≡_};
 ghost use mathlib.Core.Bool.{cond};
 ghost use Rattle.settings.specs.Valid.{validSettings};
 ghost use Rattle.settings.specs.Refused.{refusalNumber};
+ghost use Rattle.words.specs.Families.{familyOf};
 ghost use Rattle.words.specs.Decode.{decodedSays};
 ghost use Rattle.words.specs.Partner.{partneredSays};
 ghost use Rattle.encoding.specs.Encode.{encodedSays};
-ghost use Rattle.host.specs.Host.{halves, familyNumber, boolNumber, fieldNumbers, familyOf, areFields, fieldsWith, fieldsOf as fieldsPaper, decodedInto, ExecutedPut, Fits, RanPut, HostDecode, HostEncode, HostPartner, HostExecute, HostPercent, HostRun};
+ghost use Rattle.host.specs.Host.{halves, boolNumber, fieldNumbers, areFields, fieldsWith, fieldsOf as fieldsPaper, decodedInto, ExecutedPut, Fits, RanPut, HostDecode, HostEncode, HostPartner, HostExecute, HostPercent, HostRun};
 use callinglamp::Decoded;
 use callinglamp::Encoded;
 use callinglamp::Executed;
@@ -40,18 +41,6 @@ fn refused(refusal: Refusal) -> u64
     answer_of(settings::refusal_number(refusal), 0)
 }
 
-fn family_number(family: Family) -> u32
-    ensures { λ r. ⌜ r ≡ familyNumber family ⌝ }
-{
-    match family {
-        Family::ByElement => 1,
-        Family::Vector => 2,
-        Family::Saturating => 3,
-        Family::LongLong => 4,
-        Family::Long => 5,
-    }
-}
-
 // The family of a number from 1 to 5.
 fn family_of(number: u32) -> Family
     ensures { λ r. ⌜ r ≡ familyOf number ⌝ }
@@ -76,7 +65,7 @@ fn put_fields(f: Fields, numbers: &mut [u32; 12])
 {
     let family = f.family;
     *numbers = [
-        family_number(family),
+        words::family_number(family),
         bool_number(f.unsigned),
         bool_number(f.subtract),
         f.lane,

@@ -2,38 +2,45 @@
 use Prim.Native.Nat.{ℕ, _*_, _≤_}
 use native.Mathlib.Omega.{arith}
 use mathlib.Core.Path.{_≡_, refl, sym, ap, ap₂, _∙_}
-use mathlib.Core.List.{List}
-use lib.ListN.{length, take}
-use lib.Seq.{length-take-le}
+use mathlib.Core.List.{List, _++_}
+use lib.ListN.{length, take, drop}
+use lib.Seq.{take-at}
 use borrow.Author.Tests.{ne-eqb}
 use Rattle.settings.specs.Refused.{refusalNumber}
 use Rattle.settings.specs.declared.Refusal.{Refusal}
 use Rattle.settings.specs.declared.Settings.{Settings}
 use Rattle.settings.proofs.Refusals.{not-0}
 use Rattle.tally.specs.declared.Tally.{Tally}
-use Rattle.runlist.specs.Plan.{Found, found, refused, Asked, mostWords, planOf}
-use Rattle.runlist.specs.Rooms.{planSays, PlanFits}
+use Rattle.numbers.specs.Numbers.{numbersAt}
+use Rattle.runlist.specs.Plan.{Found, found, refused, Asked, mostWords, endedAt, asking, planOf}
+use Rattle.runlist.specs.Rooms.{wordsSay, frontSays}
 use Rattle.runlist.specs.RunList.{Ended, carriedOut, runPaper, runSays, RunPromise}
-use Rattle.runlist.specs.declared.Plan.{Plan}
-use Rattle.runlist.specs.declared.Plan.the-variants as plan
+use Rattle.runlist.specs.declared.Words.{Words}
+use Rattle.runlist.specs.declared.Words.the-variants as words
+use Rattle.runlist.specs.declared.Front.the-variants as begun
 use Rattle.runlist.specs.declared.RunAnswer.the-variants.{Ran, Refused}
-use Rattle.runlist.proofs.Theorems.{lengths-hold}
+use Rattle.demands.proofs.Lists.{lengths-hold}
 use Rattle.lines.specs.Lines.{refusedLine, ranLines}
 use Rattle.lamp.specs.Lamp.{wordsOf, textOf, linesOf, WordsAgain}
 
 -- ---- the words, read again
 
-module _ (list : List ℕ) (z za room : ℕ) (ws : List ℕ) (l : length ws ≡ mostWords) where
-  told : (at n : ℕ) (s : Settings) → planSays (plan.Go at n) list z s ws ≡ planOf list z za room → (a : Asked) → planOf list z za room ≡ found a → take n ws ≡ a .words
-  unfolding wordsOf
-  told at n s e a q = ap wordsOf (e ∙ q)
+no-such : (r : Refusal) (p : ℕ) (a : Asked) → refused r p ≡ found a → ⊥
+no-such r p a e = let no : _≡_ {A = ℕ} 0 1 = cc in omega arith
 
-  pub words-again : (r : Plan) (s : Settings) → planSays r list z s ws ≡ planOf list z za room → PlanFits r (length list) z room → WordsAgain list z za room ws
-  words-again (plan.Go at n) s e f a q =
-      let is : take n ws ≡ a .words = told at n s e a q in
-      let long : length (a .words) ≡ n = sym (ap length is) ∙ length-take-le n ws (omega (arith, f .1, l)) in
-      ap (λ (k : ℕ). take k ws) long ∙ is
-  words-again (plan.Refused r p) s e f a q = let no : refused r p ≡ found a = e ∙ q in let no-such : _≡_ {A = ℕ} 0 1 = cc in absurd (omega arith)
+module _ (list : List ℕ) (z za room : ℕ) (s : Settings) where
+  pub none-again : (r : Refusal) (p : ℕ) (ws : List ℕ) → refused r p ≡ planOf list z za room → WordsAgain list z za room ws
+  none-again r p ws e a q = absurd (no-such r p a (e ∙ q))
+
+  -- they were read into the front of a room
+  pub words-again : (at from n : ℕ) → frontSays (begun.Words at from n) s list z ≡ planOf list z za room
+      → (r : Words) (part rest : List ℕ) → wordsSay r part ≡ endedAt list (numbersAt list from n) → WordsAgain list z za room (part ++ rest)
+  unfolding wordsOf
+  words-again at from n e words.Read part rest d a q =
+      let is : part ≡ a .words = ap wordsOf (ap (asking s (take z (drop at list))) d ∙ e ∙ q) in
+      take-at part rest (length (a .words)) (ap length is) ∙ is
+  words-again at from n e (words.Refused r p) part rest d a q =
+      absurd (no-such r p a (ap (asking s (take z (drop at list))) d ∙ e ∙ q))
 
 -- ---- a list that ran was accepted
 

@@ -19,9 +19,9 @@ use Rattle.numbers.proofs.Places.{number-far}
 use Rattle.numbers.proofs.Rows.{row-first}
 use Rattle.machine.specs.Execute.{rightLengths}
 use Rattle.runlist.specs.Plan.{mostWords, settingsOf}
-use Rattle.runlist.specs.Theorems.{longest}
-use Rattle.runlist.proofs.Lists.{Refusing, Causes, by-cause}
-use Rattle.runlist.proofs.Theorems.{enough-bytes, run-of-enough}
+use Rattle.demands.specs.Lists.{longest}
+use Rattle.demands.proofs.Reading.{Refusing, Causes, by-cause}
+use Rattle.demands.proofs.Lists.{enough-bytes, run-of-enough}
 use Rattle.lamp.specs.Lamp.{wordsOf, textOf, linesOf, registerOf, registerBytes, printed}
 use Rattle.lamp.specs.Theorems.{EnoughRead, NeverBadLength}
 

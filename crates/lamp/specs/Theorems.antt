@@ -6,7 +6,7 @@ use mathlib.Core.List.{List}
 use lib.ListN.{take}
 use Rattle.settings.specs.declared.Refusal.the-variants.{BadLength}
 use Rattle.runlist.specs.Plan.{refused, mostWords, planOf}
-use Rattle.runlist.specs.Theorems.{longest}
+use Rattle.demands.specs.Lists.{longest}
 use Rattle.lamp.specs.Lamp.{registerBytes, printed}
 
 -- the first bytes decide: whoever keeps more of the input than the longest accepted list has prints what is due to the whole

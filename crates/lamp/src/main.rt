@@ -4,12 +4,13 @@ ghost use Prim.Native.Nat.{_+_, _*_, _≤_, _<_};
 ghost use lib.ListN.{length, take};
 ghost use Rattle.lines.specs.Lines.{Wrote};
 ghost use Rattle.runlist.specs.Plan.{mostWords};
-ghost use Rattle.runlist.specs.Theorems.{longest};
+ghost use Rattle.demands.specs.Lists.{longest};
 ghost use Rattle.lamp.specs.Lamp.{linesOf, registerOf, registerBytes, printed, WordsAgain};
 use callinglamp::RunAnswer;
 use libc::STDIN_FILENO;
 use libc::STDOUT_FILENO;
 use numbers::Read;
+use runlist::Front;
 
 // How much of the input is kept.
 const INPUT: usize = 8192;
@@ -54,7 +55,19 @@ fn words_again(list: &[u8], z: usize, za: usize, room: usize, words: &mut [u32])
     ensures { λ _. ⌜ WordsAgain (now (list .entry)) z za room (now (words .exit)) ⌝ }
 {
     let mut head = [0u32; runlist::HEAD];
-    runlist::read_list(list, z, za, room, &mut head, words);
+    match runlist::read_front(list, z, za, room, &mut head) {
+        Front::Refused {
+            refusal: _,
+            place: _,
+        } => {}
+        Front::Words {
+            at: _,
+            from,
+            words: count,
+        } => {
+            runlist::read_to_end(list, from, &mut words[..count]);
+        }
+    }
 }
 
 // Runs the list with what is lent, and puts the text of the answer into `out`.

@@ -1,15 +1,17 @@
 -- A saturating step by signs and magnitudes, for any widths. Assumes nothing.
 use mathlib.Core.Path.{_≡_, refl, sym, ap, _∙_}
 use mathlib.Core.Bool.{Bool, true, false, not, Bool·beq}
-use Prim.Native.Nat.{ℕ, zero, suc, _+_, _-_, _*_, _^_, _<_, _≤_, min}
-use native.Mathlib.Nat.{zero-min}
+use Prim.Native.Nat.{ℕ, zero, suc, _+_, _-_, _*_, _%_, _^_, _<_, _≤_, min}
+use native.Mathlib.Nat.{zero-min, mod-eq-of-lt}
 use native.Mathlib.Omega.{arith}
 use lib.IntN.{ℤ, pos, negsuc, negℤ, _+ℤ_, _*ℤ_, +ℤ-idl, negℤ-negℤ}
+use lib.Pow.{pow-pos}
 use borrow.Author.Tests.{lt-ltb, le-ltb}
 use Rattle.laws.proofs.Tests.{by-lt}
 use Rattle.lanes.specs.Lane.{SInt, low, addSub, clamp, SignedSat, satStep}
 use Rattle.lanes.specs.Signed.{value, signs, limit}
 use Rattle.lanes.proofs.Signs.{sum-same, sum-ge, sum-le, value-times}
+use Rattle.lanes.proofs.Widths.{two-halves}
 
 -- ---- the sum or difference
 
@@ -41,26 +43,26 @@ clamp-neg h m = by-lt h m
     less : (h m : ℕ) → m ≤ h → suc m ≡ min (suc m) (suc h)
     less h m k = omega arith
 
-pub clamp-value : (half : ℕ) → zero < half → (s : Bool) (m : ℕ) → clamp half (value s m) ≡ value s (min m (limit half s))
+pub clamp-value : (top : ℕ) → zero < top → (s : Bool) (m : ℕ) → clamp top (value s m) ≡ value s (min m (limit top s))
 unfolding value
 clamp-value zero h s m = absurd (omega arith)
-clamp-value (suc half) h false m = clamp-pos half m
-clamp-value (suc half) h true zero = clamp-pos half zero ∙ simp zero-min
-clamp-value (suc half) h true (suc m) = clamp-neg half m
+clamp-value (suc top) h false m = clamp-pos top m
+clamp-value (suc top) h true zero = clamp-pos top zero ∙ simp zero-min
+clamp-value (suc top) h true (suc m) = clamp-neg top m
 
-pub limit-le : (half : ℕ) (s : Bool) → limit half s ≤ half
-limit-le half false = omega arith
-limit-le half true = omega arith
+pub limit-le : (top : ℕ) (s : Bool) → limit top s ≤ top
+limit-le top false = omega arith
+limit-le top true = omega arith
 
 -- ---- what the code's branches ask
 
 -- the three cases of a sum
-pub clamp-same : (half : ℕ) (s t : Bool) (a b : ℕ) (r : ℤ) → Bool·beq s t ≡ true
-    → r ≡ clamp half (value t (a + b)) → r ≡ clamp half (value s a +ℤ value t b)
-clamp-same half false false a b r e h = h ∙ ap (clamp half) (sym (sum-same false a b))
-clamp-same half false true a b r e h = cc
-clamp-same half true false a b r e h = cc
-clamp-same half true true a b r e h = h ∙ ap (clamp half) (sym (sum-same true a b))
+pub clamp-same : (top : ℕ) (s t : Bool) (a b : ℕ) (r : ℤ) → Bool·beq s t ≡ true
+    → r ≡ clamp top (value t (a + b)) → r ≡ clamp top (value s a +ℤ value t b)
+clamp-same top false false a b r e h = h ∙ ap (clamp top) (sym (sum-same false a b))
+clamp-same top false true a b r e h = cc
+clamp-same top true false a b r e h = cc
+clamp-same top true true a b r e h = h ∙ ap (clamp top) (sym (sum-same true a b))
 
 other : (s t : Bool) → Bool·beq s t ≡ false → t ≡ not s
 other false false e = cc
@@ -68,24 +70,24 @@ other false true e = refl
 other true false e = refl
 other true true e = cc
 
-pub clamp-ge : (half : ℕ) (s t : Bool) (a b : ℕ) (r : ℤ) → Bool·beq s t ≡ false → b ≤ a
-    → r ≡ clamp half (value s (a - b + 0)) → r ≡ clamp half (value s a +ℤ value t b)
-clamp-ge half s t a b r e k h =
+pub clamp-ge : (top : ℕ) (s t : Bool) (a b : ℕ) (r : ℤ) → Bool·beq s t ≡ false → b ≤ a
+    → r ≡ clamp top (value s (a - b + 0)) → r ≡ clamp top (value s a +ℤ value t b)
+clamp-ge top s t a b r e k h =
     let z : a - b + 0 ≡ a - b = omega arith in
     h
-    ∙ ap (λ (m : ℕ). clamp half (value s m)) z
-    ∙ ap (clamp half) (sym (sum-ge s a b k))
-    ∙ ap (λ (u : Bool). clamp half (value s a +ℤ value u b)) (sym (other s t e))
+    ∙ ap (λ (m : ℕ). clamp top (value s m)) z
+    ∙ ap (clamp top) (sym (sum-ge s a b k))
+    ∙ ap (λ (u : Bool). clamp top (value s a +ℤ value u b)) (sym (other s t e))
 
-pub clamp-le : (half : ℕ) (s t : Bool) (a b : ℕ) (r : ℤ) → Bool·beq s t ≡ false → a ≤ b
-    → r ≡ clamp half (value t (b - a + 0)) → r ≡ clamp half (value s a +ℤ value t b)
-clamp-le half s t a b r e k h =
+pub clamp-le : (top : ℕ) (s t : Bool) (a b : ℕ) (r : ℤ) → Bool·beq s t ≡ false → a ≤ b
+    → r ≡ clamp top (value t (b - a + 0)) → r ≡ clamp top (value s a +ℤ value t b)
+clamp-le top s t a b r e k h =
     let z : b - a + 0 ≡ b - a = omega arith in
     h
-    ∙ ap (λ (m : ℕ). clamp half (value t m)) z
-    ∙ ap (λ (u : Bool). clamp half (value u (b - a))) (other s t e)
-    ∙ ap (clamp half) (sym (sum-le s a b k))
-    ∙ ap (λ (u : Bool). clamp half (value s a +ℤ value u b)) (sym (other s t e))
+    ∙ ap (λ (m : ℕ). clamp top (value t m)) z
+    ∙ ap (λ (u : Bool). clamp top (value u (b - a))) (other s t e)
+    ∙ ap (clamp top) (sym (sum-le s a b k))
+    ∙ ap (λ (u : Bool). clamp top (value s a +ℤ value u b)) (sym (other s t e))
 
 -- ---- the whole step
 
@@ -98,16 +100,18 @@ double false m = ap (value false) (twice m)
 double true m = ap (value true) (twice m) ∙ sym (value-times false true 2 m)
 
 pub sat-is : (lane wide : ℕ) (subtract : Bool) (a x y r h : ℕ) (s t v d sa e : Bool) (p q m dm ma em : ℕ)
-    → h ≡ 2 ^ (wide - 1)
+    → zero < wide → h ≡ 2 ^ (wide - 1)
     → value s p ≡ SInt lane x → value t q ≡ SInt lane y → v ≡ signs s t → m ≡ p * q
     → value d dm ≡ clamp h (value v (m + m))
     → value sa ma ≡ SInt wide a
-    → value e em ≡ clamp h (value sa ma +ℤ value (signs d subtract) dm)
-    → r ≡ low wide (pos zero +ℤ value e em)
+    → value e em ≡ clamp h (value sa ma +ℤ value (signs d subtract) dm) → em ≤ h
+    → r ≡ low wide (pos zero +ℤ value e (em % 2 ^ wide))
     → r ≡ satStep lane wide subtract a x y
 unfolding satStep SignedSat
-sat-is lane wide subtract a x y r h s t v d sa e p q m dm ma em eh ex ey ev ep ed ea ee er =
+sat-is lane wide subtract a x y r h s t v d sa e p q m dm ma em hw eh ex ey ev ep ed ea ee le er =
+    let whole : em < 2 ^ wide = omega (arith, two-halves wide hw, pow-pos (wide - 1)) in
     er
+    ∙ ap (λ (k : ℕ). low wide (pos zero +ℤ value e k)) (mod-eq-of-lt whole)
     ∙ ap (low wide) (+ℤ-idl (value e em) ∙ ee ∙ ap (clamp h) (sym (add-signed subtract (value sa ma) d dm))
     ∙ ap (λ (z : ℤ). clamp h (addSub subtract z (value d dm))) ea
     ∙ ap (λ (z : ℤ). clamp h (addSub subtract (SInt wide a) z)) (ed

@@ -1,44 +1,57 @@
--- What the widths of a wrapping step are. Assumes nothing.
-use mathlib.Core.Path.{_≡_}
-use mathlib.Core.Bool.{true, _||_}
-use Prim.Native.Nat.{ℕ, zero, _-_, _^_, _<_, _≤_}
+-- What the widths of a step are. Assumes nothing.
+use mathlib.Core.Path.{_≡_, refl}
+use mathlib.Core.Logic.{inl, inr, ⊎-elim}
+use Prim.Native.Nat.{ℕ, zero, suc, _+_, _-_, _*_, _^_, _<_, _≤_}
 use native.Mathlib.Nat.{lt-of-lt-of-le}
 use native.Mathlib.Omega.{arith}
-use lib.Dec.{eqb, leb}
 use lib.Pow.{pow-mono}
-use borrow.Author.Tests.{eqb-true}
-use Rattle.laws.proofs.Tests.{both, either}
-use Rattle.lanes.specs.Widths.{isLane, widths}
-
--- one of three numbers, by cases
-by-three : {P : Type 0} (n a b c : ℕ) → (n ≡ a → P) → (n ≡ b → P) → (n ≡ c → P) → (eqb n a || (eqb n b || eqb n c)) ≡ true → P
-by-three n a b c f g h e =
-    either (eqb n a) (eqb n b || eqb n c) e
-    (λ p. f (eqb-true n a p))
-    (λ q. either (eqb n b) (eqb n c) q (λ p. g (eqb-true n b p)) (λ p. h (eqb-true n c p)))
-
--- that is neither of the first two
-third : (n a b c : ℕ) → (eqb n a || (eqb n b || eqb n c)) ≡ true → (n ≡ a → ⊥) → (n ≡ b → ⊥) → n ≡ c
-third n a b c e f g = by-three n a b c (λ p. absurd (f p)) (λ p. absurd (g p)) (λ p. p) e
+use Rattle.elements.specs.Size.{IsLane}
+use Rattle.elements.proofs.Lanes.{by-lane}
+use Rattle.lanes.specs.Widths.{IsWidth, Widths}
 
 -- ---- a lane
 
-pub lane-rest : (lane : ℕ) → isLane lane ≡ true → (lane ≡ 8 → ⊥) → (lane ≡ 16 → ⊥) → lane ≡ 32
-lane-rest lane e f g = third lane 8 16 32 e f g
+pub lane-range : (lane : ℕ) → IsLane lane → (8 ≤ lane) × (lane ≤ 32)
+lane-range = by-lane (λ n. (8 ≤ n) × (n ≤ 32)) (omega arith, omega arith) (omega arith, omega arith) (omega arith, omega arith)
 
-pub lane-range : (lane : ℕ) → isLane lane ≡ true → (zero < lane) × (lane ≤ 32)
-lane-range lane = by-three lane 8 16 32 (λ p. (omega arith, omega arith)) (λ p. (omega arith, omega arith)) (λ p. (omega arith, omega arith))
+pub lane-lt : (lane : ℕ) → IsLane lane → (x : ℕ) → x < 2 ^ lane → x < 2 ^ 32
+lane-lt lane l x h = lt-of-lt-of-le h (pow-mono (lane-range lane l .1))
 
-pub lane-lt : (lane : ℕ) → isLane lane ≡ true → (x : ℕ) → x < 2 ^ lane → x < 2 ^ 32
-lane-lt lane e x h = lt-of-lt-of-le h (pow-mono (lane-range lane e .1))
+pub top-le : (lane : ℕ) → IsLane lane → 2 ^ (lane - 1) ≤ 2 ^ 31
+top-le lane l = let h : lane - 1 ≤ 31 = omega (arith, lane-range lane l .1) in pow-mono h
 
-pub top-le : (lane : ℕ) → isLane lane ≡ true → 2 ^ (lane - 1) ≤ 2 ^ 31
-top-le lane e = let h : lane - 1 ≤ 31 = omega (arith, lane-range lane e .1) in pow-mono h
+-- ---- any width
 
--- ---- both
+-- what holds of each width holds of any
+by-width : (P : ℕ → Type 0) → P 8 → P 16 → P 32 → P 64 → (n : ℕ) → IsWidth n → P n
+by-width P a b c d n w = ⊎-elim (by-lane P a b c n) (λ (e : n ≡ 64). rw e d) w
 
-pub lane-of : (lane wide : ℕ) → widths lane wide ≡ true → isLane lane ≡ true
-lane-of lane wide e = both (isLane lane) _ (both _ (leb _ wide) e .0) .0
+pub width-range : (n : ℕ) → IsWidth n → (zero < n) × (n ≤ 64)
+width-range = by-width (λ n. (zero < n) × (n ≤ 64)) (omega arith, omega arith) (omega arith, omega arith) (omega arith, omega arith) (omega arith, omega arith)
 
-pub wide-rest : (lane wide : ℕ) → widths lane wide ≡ true → (wide ≡ 16 → ⊥) → (wide ≡ 32 → ⊥) → wide ≡ 64
-wide-rest lane wide e f g = third wide 16 32 64 (both (isLane lane) _ (both _ (leb _ wide) e .0) .1) f g
+-- a width that no lane has
+pub last-width : (n : ℕ) → IsWidth n → (n ≡ 8 → ⊥) → (n ≡ 16 → ⊥) → (n ≡ 32 → ⊥) → n ≡ 64
+last-width =
+    by-width (λ n. (n ≡ 8 → ⊥) → (n ≡ 16 → ⊥) → (n ≡ 32 → ⊥) → n ≡ 64)
+    (λ f g h. absurd (f refl))
+    (λ f g h. absurd (g refl))
+    (λ f g h. absurd (h refl))
+    (λ f g h. refl)
+
+-- 2 to n is twice the least number of n bits whose top bit is set
+pub two-halves : (n : ℕ) → zero < n → 2 ^ n ≡ 2 ^ (n - 1) + 2 ^ (n - 1)
+two-halves zero h = absurd (omega arith)
+two-halves (suc n) h = let e : suc n - 1 ≡ n = omega arith in rw e (omega arith)
+
+-- ---- a lane and its accumulator
+
+pub wide-least : (lane wide : ℕ) → Widths lane wide → 16 ≤ wide
+wide-least lane wide w = omega (arith, lane-range lane (w .0) .0, w .1 .1)
+
+-- the accumulator of twice a lane's bits
+pub doubled : (lane : ℕ) → IsLane lane → Widths lane (2 * lane)
+doubled =
+    by-lane (λ n. Widths n (2 * n))
+    (inl refl, (inl (inr (inl refl)), omega arith))
+    (inr (inl refl), (inl (inr (inr refl)), omega arith))
+    (inr (inr refl), (inr refl, omega arith))

@@ -12,14 +12,11 @@ use Rattle.lanes.specs.Signed.{value, signs}
 use Rattle.lanes.specs.Widths.{raise}
 use Rattle.lanes.proofs.Integers.{minus-lt, minus-ge, low-lt, low-sub, low-low}
 use Rattle.lanes.proofs.Signs.{sum-ge, sum-le, value-times}
+use Rattle.lanes.proofs.Widths.{two-halves}
 
 -- ---- a number of the lane's bits, raised, is its integer, raised
 
-two-halves : (w : ℕ) → zero < w → 2 ^ w ≡ 2 ^ (w - 1) + 2 ^ (w - 1)
-two-halves zero h = absurd (omega arith)
-two-halves (suc w) h = let e : suc w - 1 ≡ w = omega arith in rw e (omega arith)
-
--- below the half the sum does not wrap, and from it on it does
+-- below h the sum does not wrap, and from it on it does
 raise-low : (m h x : ℕ) → m ≡ h + h → x < h → pos ((x + h) % m) -ℤ pos h ≡ pos x
 raise-low m h x em k =
     let l : x + h < m = omega arith in

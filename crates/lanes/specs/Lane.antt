@@ -35,9 +35,9 @@ accumulate n subtract a p = low n (addSub subtract (pos a) (pos p))
 unfoldable pub laneStep : ℕ → ℕ → Bool → Bool → ℕ → ℕ → ℕ → ℕ
 laneStep lane wide unsigned subtract a x y = accumulate wide subtract a (product lane wide unsigned x y)
 
--- z, but at most half - 1 and at least -half
+-- z, but at most top - 1 and at least -top
 unfoldable pub clamp : ℕ → ℤ → ℤ
-clamp half z = cond (ltZ (pos (half - 1)) z) (pos (half - 1)) (cond (ltZ z (negℤ (pos half))) (negℤ (pos half)) z)
+clamp top z = cond (ltZ (pos (top - 1)) z) (pos (top - 1)) (cond (ltZ z (negℤ (pos top))) (negℤ (pos top)) z)
 
 -- SignedSat(z, n): z clamped to the signed numbers of n bits
 unfoldable pub SignedSat : ℕ → ℤ → ℤ

@@ -12,6 +12,6 @@ value true m = negℤ (pos m)
 abbrev pub signs : Bool → Bool → Bool
 signs s t = not (Bool·beq s t)
 
--- the largest magnitude of that sign from -half to half - 1
+-- the largest magnitude of that sign from -top to top - 1
 abbrev pub limit : ℕ → Bool → ℕ
-limit half neg = cond neg half (half - 1)
+limit top neg = cond neg top (top - 1)

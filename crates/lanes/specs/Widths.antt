@@ -1,15 +1,17 @@
--- The widths that the wrapping step is asked for, and by how much it raises its factors. Only contracts use this.
-use Prim.Native.Nat.{ℕ, _+_, _-_, _^_}
-use mathlib.Core.Bool.{Bool, _&&_, _||_, cond}
-use lib.Dec.{eqb, leb}
+-- The widths that a step is asked for, and by how much the wrapping one raises its factors. Only contracts use this.
+use Prim.Native.Nat.{ℕ, _+_, _-_, _^_, _≤_}
+use mathlib.Core.Path.{_≡_}
+use mathlib.Core.Logic.{_⊎_}
+use mathlib.Core.Bool.{Bool, cond}
+use Rattle.elements.specs.Size.{IsLane}
 
--- a lane of A, B, D and E has 8, 16 or 32 bits
-abbrev pub isLane : ℕ → Bool
-isLane lane = eqb lane 8 || (eqb lane 16 || eqb lane 32)
+-- an element has the bits of a lane, or 64
+abbrev pub IsWidth : ℕ → Type 0
+IsWidth bits = IsLane bits ⊎ (bits ≡ 64)
 
--- its accumulator has 16, 32 or 64, and holds the product of two lanes
-abbrev pub widths : ℕ → ℕ → Bool
-widths lane wide = (isLane lane && (eqb wide 16 || (eqb wide 32 || eqb wide 64))) && leb (lane + lane) wide
+-- the accumulator holds the product of two lanes, so that none has 8 bits
+abbrev pub Widths : ℕ → ℕ → Type 0
+Widths lane wide = IsLane lane × (IsWidth wide × (lane + lane ≤ wide))
 
 -- what is added to the integer of a lane so that it is not negative
 abbrev pub raise : ℕ → Bool → ℕ

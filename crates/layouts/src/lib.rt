@@ -14,10 +14,6 @@ pub const BIT_6: u32 = 64;
 
 pub const BIT_7: u32 = 128;
 
-pub const BIT_8: u32 = 256;
-
-pub const BIT_9: u32 = 512;
-
 pub const BIT_10: u32 = 1024;
 
 pub const BIT_11: u32 = 2048;
@@ -47,14 +43,6 @@ pub const BIT_22: u32 = 4194304;
 pub const BIT_23: u32 = 8388608;
 
 pub const BIT_24: u32 = 16777216;
-
-pub const BIT_25: u32 = 33554432;
-
-pub const BIT_26: u32 = 67108864;
-
-pub const BIT_27: u32 = 134217728;
-
-pub const BIT_28: u32 = 268435456;
 
 pub const BIT_29: u32 = 536870912;
 

@@ -27,29 +27,29 @@ pub use Rattle.machine.specs.Loop.{IntoZa}
 use Rattle.machine.specs.Loop.{place, fresh}
 use Rattle.machine.proofs.Grid.{Grid, Written, which, place-lt, place-distinct, place-which, place-written, which-lt, which-row}
 
--- the group, as a word has it, and k
-pub za-facts : (f : Fields) → Ranges f → IntoZa f → ((f .group ≡ 2) ⊎ (f .group ≡ 4)) × ((perSource (f .family) ≡ 4) ⊎ (perSource (f .family) ≡ 2))
-za-facts f g (inl e) = let o : OfFamily LongLong f = subst (λ (x : Family). OfFamily x f) e (g .of-family) in (o .0, inl (ap perSource e))
-za-facts f g (inr e) = let o : OfFamily Long f = subst (λ (x : Family). OfFamily x f) e (g .of-family) in (o .0, inr (ap perSource e))
+-- the group, as a word has it
+pub group-numbers : (f : Fields) → Ranges f → IntoZa f → (f .group ≡ 2) ⊎ (f .group ≡ 4)
+group-numbers f g (inl e) = let o : OfFamily LongLong f = subst (λ (x : Family). OfFamily x f) e (g .of-family) in o .0
+group-numbers f g (inr e) = let o : OfFamily Long f = subst (λ (x : Family). OfFamily x f) e (g .of-family) in o .0
 
 -- k, by its number
-pub two-or-four-vectors : (f : Fields) → Ranges f → IntoZa f → (k : ℕ) → k ≡ perSource (f .family) → (k ≡ 2) ⊎ (k ≡ 4)
-two-or-four-vectors f g (inl e) k ek = inr (ek ∙ ap perSource e)
-two-or-four-vectors f g (inr e) k ek = inl (ek ∙ ap perSource e)
+pub two-or-four-vectors : (f : Fields) → IntoZa f → (k : ℕ) → k ≡ perSource (f .family) → (k ≡ 2) ⊎ (k ≡ 4)
+two-or-four-vectors f (inl e) k ek = inr (ek ∙ ap perSource e)
+two-or-four-vectors f (inr e) k ek = inl (ek ∙ ap perSource e)
 
 -- rows of a multiple of 4 vectors; rounding down to a multiple of k keeps k vectors below the row's end
-over-numbers : (w group k x : ℕ) → VectorLength w → (group ≡ 2) ⊎ (group ≡ 4) → (k ≡ 4) ⊎ (k ≡ 2)
+over-numbers : (w group k x : ℕ) → VectorLength w → (group ≡ 2) ⊎ (group ≡ 4) → (k ≡ 2) ⊎ (k ≡ 4)
     → Grid w group (w / group) k (x % (w / group) - x % (w / group) % k) × ((x % (w / group) - x % (w / group) % k) % k ≡ 0)
 over-numbers w group k x v = go
   where
-    grid : (stride : ℕ) → w / group ≡ stride → stride % 4 ≡ 0 → 0 < stride → group * stride ≡ w → (k ≡ 4) ⊎ (k ≡ 2)
+    grid : (stride : ℕ) → w / group ≡ stride → stride % 4 ≡ 0 → 0 < stride → group * stride ≡ w → (k ≡ 2) ⊎ (k ≡ 4)
         → Grid w group stride k (x % stride - x % stride % k) × ((x % stride - x % stride % k) % k ≡ 0)
     grid stride e m p t (inl h) =
         let l = mod-lt x p in rw h (record { rows = t; some = omega arith; fits = omega arith }, omega arith)
     grid stride e m p t (inr h) =
         let l = mod-lt x p in rw h (record { rows = t; some = omega arith; fits = omega arith }, omega arith)
 
-    go : (group ≡ 2) ⊎ (group ≡ 4) → (k ≡ 4) ⊎ (k ≡ 2)
+    go : (group ≡ 2) ⊎ (group ≡ 4) → (k ≡ 2) ⊎ (k ≡ 4)
         → Grid w group (w / group) k (x % (w / group) - x % (w / group) % k) × ((x % (w / group) - x % (w / group) % k) % k ≡ 0)
     go (inl h) = grid (w / group) refl (rw h (omega (arith, v .whole))) (rw h (omega (arith, v .least))) (rw h (omega (arith, v .whole)))
     go (inr h) = grid (w / group) refl (rw h (omega (arith, v .whole))) (rw h (omega (arith, v .least))) (rw h (omega (arith, v .whole)))
@@ -58,8 +58,7 @@ module _ (s : Settings) (v : VectorLength (arrayBytes s)) (f : Fields) (g : Rang
   numbers : Grid (arrayBytes s) (f .group) (stride s f) (perSource (f .family)) (firstVector s f) × (firstVector s f % perSource (f .family) ≡ 0)
   unfolding stride selected firstVector
   numbers =
-      let z = za-facts f g za in
-      over-numbers (arrayBytes s) (f .group) (perSource (f .family)) (getD (s .select) (f .select - 8) 0 + f .offset) v (z .0) (z .1)
+      over-numbers (arrayBytes s) (f .group) (perSource (f .family)) (getD (s .select) (f .select - 8) 0 + f .offset) v (group-numbers f g za) (two-or-four-vectors f za _ refl)
 
   pub grid : Grid (arrayBytes s) (f .group) (stride s f) (perSource (f .family)) (firstVector s f)
   grid = numbers .0

@@ -1,6 +1,6 @@
 -- The tests before a step, in their order. Assumes nothing.
 use Prim.Native.Nat.{ℕ, _*_}
-use mathlib.Core.Path.{_≡_, ap₂}
+use mathlib.Core.Path.{_≡_, ap₂, _∙_}
 use mathlib.Core.Logic.{_≢_}
 use mathlib.Core.Bool.{true, false, _&&_}
 use mathlib.Core.List.{List}
@@ -16,7 +16,7 @@ use Rattle.words.specs.declared.Fields.{Fields}
 use Rattle.words.proofs.Answers.{decodes-exactly}
 use Rattle.words.proofs.Ranges.{in-range}
 use Rattle.machine.specs.Modes.{permits}
-use Rattle.machine.specs.Execute.{refusedWith, stepped, executeFields, executeDecoded, rightLengths, executePaper}
+use Rattle.machine.specs.Execute.{refusedWith, stepped, executeFields, rightLengths, executePaper}
 use Rattle.machine.specs.Loop.{Ready}
 
 -- an accepted word's fields are in range
@@ -48,17 +48,14 @@ module _ (s : Settings) (z za : List ℕ) where
         za-long = eqb-true (length za) (arrayBytes s * arrayBytes s) (b .1);
       }
 
-  pub is-executed : (w : ℕ) → validSettings s ≡ true → rightLengths s (length z) (length za) ≡ true
-      → executeDecoded s (decodeEnabled (s .features .0) w) z za ≡ executePaper s w z za
-  unfolding executePaper
-  is-executed w v e = rw (v, e)
-
   -- 3
-  pub not-decoded : (w n : ℕ) → decodeEnabled (s .features .0) w .0 ≡ n → n ≢ 0 → refusedWith n z za ≡ executeDecoded s (decodeEnabled (s .features .0) w) z za
-  not-decoded w n e h = rw (e, ne-eqb n 0 h)
+  pub not-decoded : (w n : ℕ) → Ready s z za → decodeEnabled (s .features .0) w .0 ≡ n → n ≢ 0 → refusedWith n z za ≡ executePaper s w z za
+  unfolding executePaper
+  not-decoded w n r e h = rw (r .valid, lengths-right (r .z-long) (r .za-long), e, ne-eqb n 0 h)
 
-  pub is-decoded : (w : ℕ) (f : Fields) → decodeEnabled (s .features .0) w ≡ (0, f) → executeFields s f z za ≡ executeDecoded s (decodeEnabled (s .features .0) w) z za
-  is-decoded w f e = rw e
+  pub is-decoded : (w : ℕ) (f : Fields) → Ready s z za → decodeEnabled (s .features .0) w ≡ (0, f) → executeFields s f z za ≡ executePaper s w z za
+  unfolding executePaper
+  is-decoded w f r e = rw (r .valid, lengths-right (r .z-long) (r .za-long), e)
 
   -- 4
   pub not-permitted : (f : Fields) → permits (s .features .0) (s .modes .0) (f .family) ≡ false → refusedWith 4 z za ≡ executeFields s f z za
@@ -68,3 +65,7 @@ module _ (s : Settings) (z za : List ℕ) where
   pub is-permitted : (f : Fields) → permits (s .features .0) (s .modes .0) (f .family) ≡ true → stepped s f z za ≡ executeFields s f z za
   unfolding executeFields
   is-permitted f e = rw e
+
+-- files of the same lengths are as ready
+pub still-ready : (s : Settings) (z za z′ za′ : List ℕ) → Ready s z za → length z′ ≡ length z → length za′ ≡ length za → Ready s z′ za′
+still-ready s z za z′ za′ r p q = record { valid = r .valid; z-long = p ∙ r .z-long; za-long = q ∙ r .za-long }

@@ -7,12 +7,5 @@ pub mod Vectors
 pub mod Selected
 pub mod Stepping
 pub mod Executing
-pub mod Effects
-pub mod Outcomes
-pub mod Accepted
-pub mod Theorems
+pub mod Small
 pub mod Answers
-pub mod Undoing
-pub mod Sweep
-pub mod SweepExamples
-pub mod Calls

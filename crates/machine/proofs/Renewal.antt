@@ -2,9 +2,8 @@
 use Prim.Native.Nat.{ℕ, _+_, _*_, _%_, _≤_, _<_}
 use native.Mathlib.Nat.{mul-le-mul-right}
 use native.Mathlib.Omega.{arith}
-use mathlib.Core.Path.{_≡_, refl, sym, ap, ap₂, _∙_, subst}
+use mathlib.Core.Path.{_≡_, refl, sym, ap, _∙_, subst}
 use mathlib.Core.Logic.{_≢_, _⊎_, inl, inr}
-use mathlib.Core.Bool.{true}
 use mathlib.Core.List.{List}
 use lib.Dec.{lit<}
 use lib.ListN.{length, drop}
@@ -17,11 +16,10 @@ use Rattle.elements.specs.Files.{vectorAt}
 use Rattle.elements.proofs.Vectors.{within}
 use Rattle.elements.proofs.Files.{next, room}
 use Rattle.bits.specs.Replace.{Replaced}
-use Rattle.recipes.specs.Recipe.{recipeOf, newLength, perSource}
+use Rattle.recipes.specs.Recipe.{Recipe, recipeOf, newLength, perSource}
 use Rattle.recipes.specs.Element.{newBytes}
-use Rattle.recipes.specs.Places.{Inside, VectorPlaces}
-use Rattle.recipes.specs.declared.Recipe.{Recipe}
-use Rattle.recipes.proofs.Inside.{inside}
+use Rattle.recipes.specs.Saturating.{OfC, RegistersThere}
+use Rattle.recipes.proofs.Inside.{Inside, inside}
 use Rattle.recipes.proofs.Built.{newBytes-within}
 use Rattle.machine.specs.Loop.{made, IntoV, IntoZa, Sources, Places}
 
@@ -54,7 +52,7 @@ some-source Long = lit< tt
 some-group : (f : Fields) (family : Family) → OfFamily family f → 0 < f .group
 some-group f ByElement o = omega arith
 some-group f Vector o = omega arith
-some-group f Saturating o = omega arith
+some-group f Saturating o = omega (arith, o .0)
 some-group f LongLong o = two-or-four (o .0)
 some-group f Long o = two-or-four (o .0)
 
@@ -82,52 +80,50 @@ module _ {f : Fields} {w : ℕ} {z : List ℕ} (p : Sources f w z) where
       subst (λ (u : List ℕ). Replaced (v * w) t u a a′) (e ∙ sym (newBytes-within r n (drop (v * w) a) (drop (x * w) z) (drop (y * w) z) w g))
 
   -- C builds the new register aside, in room for it
-  module _ (c : f .family ≡ Saturating) {r : Recipe} (er : r ≡ recipeOf (f .family) f 0) (bytes : ℕ) (eb : bytes ≡ w) where
+  module _ (c : f .family ≡ Saturating) (bytes : ℕ) (eb : bytes ≡ w) where
     whole-register : newLength (f .family) w ≡ w
     whole-register = ap (λ (x : Family). newLength x w) c
 
-    within-register : Inside r bytes w
-    within-register =
-        subst (λ (x : Recipe). Inside x bytes w) (sym er)
-        (subst (λ (n : ℕ). Inside (recipeOf (f .family) f 0) n w) (whole-register ∙ sym eb) (inside f (p .ranges) w (p .width) 0 first-source))
+    of-c : OfC (f .lane)
+    of-c = let o : OfFamily Saturating f = subst (λ (x : Family). OfFamily x f) c (p .ranges .of-family) in o .1
 
-    pub saturates : r .saturating ≡ true
-    saturates = ap (λ (x : Recipe). x .saturating) er ∙ ap (λ (x : Family). recipeOf x f 0 .saturating) c
-
-    -- the elements that the recipe takes are there
-    pub step-places : VectorPlaces r bytes z (f .destination * w) z (f .first * w) (f .second * w)
+    -- the registers that it takes are there
+    pub step-places : ((f .family ≡ Saturating) × OfC (f .lane)) × RegistersThere (f .lane) (f .part) (f .index) bytes z (f .destination * w) (f .first * w) (f .second * w)
     step-places =
-        let g = within-register in
-        let l = source-lt f (p .ranges) in
-        record {
-          wider = g .wider;
-          whole = g .whole;
-          room = omega (arith, g .room, register-there (f .destination) (p .ranges .destination));
-          first = λ e h. omega (arith, g .first e h, register-there (f .first) (l .0));
-          second = λ e h. omega (arith, g .second e h, register-there (f .second) (l .1));
-        }
+        let g = p .ranges in
+        let l = source-lt f g in (
+          (c, of-c),
+          record {
+            of-two = g .part;
+            in-segment = g .index;
+            whole = omega (arith, p .width .whole);
+            old = omega (arith, register-there (f .destination) (g .destination));
+            first = omega (arith, register-there (f .first) (l .0));
+            second = omega (arith, register-there (f .second) (l .1));
+          },
+        )
 
     module _ (out : List ℕ) (long : length out ≡ bytes) where
       pub step-room : (f .destination * w + length out ≤ length z) × (length out % 8 ≡ 0) × (length out ≤ 65536)
-      step-room =
-          let g = within-register in (
-            omega (arith, g .room, register-there (f .destination) (p .ranges .destination)),
-            subst (λ (n : ℕ). n % 8 ≡ 0) (sym long) (g .whole),
-            omega (arith, g .room, p .width .most),
-          )
+      step-room = (
+        omega (arith, register-there (f .destination) (p .ranges .destination)),
+        omega (arith, p .width .whole),
+        omega (arith, p .width .most),
+      )
 
       -- what the loop built is put into its place
-      pub step-renewal : (z′ : List ℕ) (t : ℕ) → out ≡ newBytes r bytes (drop (f .destination * w) z) (drop (f .first * w) z) (drop (f .second * w) z)
+      pub step-renewal : (z′ : List ℕ) (t : ℕ)
+          → out ≡ newBytes (recipeOf (f .family) f 0) bytes (drop (f .destination * w) z) (drop (f .first * w) z) (drop (f .second * w) z)
           → Replaced (f .destination * w) t out z z′
           → Replaced (f .destination * w) t (made f 0 (newLength (f .family) w) w (f .destination) z (f .first) (f .second) z) z z′
       step-renewal z′ t e =
           renewal 0 first-source (newLength (f .family) w) refl (f .destination) (f .first) (f .second) z out z′ t
-          (e ∙ ap₂ (λ (q : Recipe) (n : ℕ). newBytes q n (drop (f .destination * w) z) (drop (f .first * w) z) (drop (f .second * w) z)) er (eb ∙ sym whole-register))
+          (e ∙ ap (λ (n : ℕ). newBytes (recipeOf (f .family) f 0) n (drop (f .destination * w) z) (drop (f .first * w) z) (drop (f .second * w) z)) (eb ∙ sym whole-register))
 
 -- A and B write 16 bytes
-pub half-vector : (f : Fields) (w : ℕ) → IntoV f → newLength (f .family) w ≡ 16
-half-vector f w (inl e) = ap (λ (x : Family). newLength x w) e
-half-vector f w (inr e) = ap (λ (x : Family). newLength x w) e
+pub v-length : (f : Fields) (w : ℕ) → IntoV f → newLength (f .family) w ≡ 16
+v-length f w (inl e) = ap (λ (x : Family). newLength x w) e
+v-length f w (inr e) = ap (λ (x : Family). newLength x w) e
 
 -- D and E write whole vectors
 pub whole-vector : {f : Fields} {w : ℕ} {z za : List ℕ} → Places f w z za → newLength (f .family) w ≡ w

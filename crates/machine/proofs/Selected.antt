@@ -16,7 +16,7 @@ use Rattle.elements.specs.Files.{replaced}
 use Rattle.recipes.specs.Recipe.{perSource}
 use Rattle.machine.specs.Step.{stride, selected, firstVector, zaAfter}
 use Rattle.machine.specs.Loop.{Grid, place, fresh, IntoZa, Places}
-use Rattle.machine.proofs.Array.{za-facts, two-or-four-vectors, grid, array-is}
+use Rattle.machine.proofs.Array.{group-numbers, two-or-four-vectors, grid, array-is}
 
 -- W8 to W11
 pub select-range : (f : Fields) → Ranges f → IntoZa f → (8 ≤ f .select) × (f .select < 12)
@@ -25,10 +25,10 @@ select-range f g (inr e) = let o : OfFamily Long f = subst (λ (x : Family). OfF
 
 module _ (s : Settings) {f : Fields} {z za : List ℕ} (p : Places f (arrayBytes s) z za) where
   pub group-is : (f .group ≡ 2) ⊎ (f .group ≡ 4)
-  group-is = za-facts f (p .sources .ranges) (p .into) .0
+  group-is = group-numbers f (p .sources .ranges) (p .into)
 
   pub vectors-are : (k : ℕ) → k ≡ perSource (f .family) → (k ≡ 2) ⊎ (k ≡ 4)
-  vectors-are = two-or-four-vectors f (p .sources .ranges) (p .into)
+  vectors-are = two-or-four-vectors f (p .into)
 
   the-grid : Grid (arrayBytes s) (f .group) (stride s f) (perSource (f .family)) (firstVector s f)
   the-grid = grid s (p .sources .width) f (p .sources .ranges) (p .into)

@@ -6,7 +6,7 @@ use mathlib.Core.Logic.{_⊎_, inl, inr, ⊎-elim}
 use mathlib.Core.Bool.{Bool, false}
 use mathlib.Core.List.{List}
 use lib.ListN.{length, drop}
-use Rattle.elements.specs.Size.{bitsOf, bytesOf, IsLane}
+use Rattle.elements.specs.Size.{bytesOf, IsLane}
 use Rattle.elements.proofs.Elements.{elementAt-drop}
 use Rattle.elements.proofs.Vectors.{vector-cong}
 use Rattle.elements.proofs.Files.{next, room}
@@ -17,31 +17,23 @@ use Rattle.words.specs.declared.Fields.{Fields}
 use Rattle.lanes.specs.Lane.{step}
 use Rattle.bits.specs.Replace.{Replaced}
 use Rattle.chunks.specs.Chunk.{strideStep, strideBytes, Reach, OfArray}
-use Rattle.recipes.specs.Recipe.{sizeOf, each, halfOf, recipeOf, newLength, perSource}
+use Rattle.recipes.specs.Recipe.{Recipe, sizeOf, each, halfOf, recipeOf, newLength, perSource}
 use Rattle.recipes.specs.Element.{chosen, newElement, newBytes}
-use Rattle.recipes.specs.declared.Recipe.{Recipe}
 use Rattle.recipes.proofs.Inside.{bits-of-lane}
-use Rattle.recipes.proofs.Sizes.{bytes-in-bits, bits-of-doubled, bits-of-quadrupled}
+use Rattle.recipes.proofs.Sizes.{bits-of-doubled, bits-of-quadrupled, InBits, bytes-of-wide, bytes-of-lane}
 use Rattle.machine.specs.Loop.{made, IntoV, IntoZa, Sources, Places}
-use Rattle.machine.proofs.Renewal.{source-lt, first-source, register-there, renewal, half-vector, whole-vector}
+use Rattle.machine.proofs.Renewal.{source-lt, first-source, register-there, renewal, v-length, whole-vector}
 
 -- lane, wide, the sign and the operation are the recipe's, and each lane that it takes is where the steps come to
 record Even (r : Recipe) (lane wide : ℕ) (unsigned subtract : Bool) (n x dx m y dy : ℕ) : Type 0 where
   pub wraps : r .saturating ≡ false
-  pub lane-bits : bitsOf (r .lane) ≡ lane
-  pub wide-bits : bitsOf (r .wide) ≡ wide
+  pub bits : InBits r lane wide
   pub signs : r .unsigned ≡ unsigned
   pub operation : r .subtract ≡ subtract
   pub first : (e : ℕ) → n + chosen (r .lane) (r .first) e * bytesOf (r .lane) ≡ x + e * dx
   pub second : (e : ℕ) → m + chosen (r .lane) (r .second) e * bytesOf (r .lane) ≡ y + e * dy
 
 module _ {r : Recipe} {lane wide : ℕ} {unsigned subtract : Bool} {n x dx m y dy : ℕ} (v : Even r lane wide unsigned subtract n x dx m y dy) where
-  bytes-of-lane : bytesOf (r .lane) ≡ lane / 8
-  bytes-of-lane = bytes-in-bits (r .lane) ∙ ap (λ (b : ℕ). b / 8) (v .lane-bits)
-
-  bytes-of-wide : bytesOf (r .wide) ≡ wide / 8
-  bytes-of-wide = bytes-in-bits (r .wide) ∙ ap (λ (b : ℕ). b / 8) (v .wide-bits)
-
   module _ (old : List ℕ) (at : ℕ) (z : List ℕ) where
     even-element : (e : ℕ) → newElement r (drop at old) (drop n z) (drop m z) e ≡ strideStep lane wide unsigned subtract old at z x dx y dy e
     unfolding newElement strideStep step
@@ -57,17 +49,17 @@ module _ {r : Recipe} {lane wide : ℕ} {unsigned subtract : Bool} {n x dx m y d
           v .wraps,
           v .signs,
           v .operation,
-          v .lane-bits,
-          v .wide-bits,
-          bytes-of-lane,
-          bytes-of-wide,
+          v .bits .lane-bits,
+          v .bits .wide-bits,
+          bytes-of-lane r lane wide (v .bits),
+          bytes-of-wide r lane wide (v .bits),
         )
 
     even-bytes : (bytes : ℕ) → strideBytes lane wide unsigned subtract old at z x dx y dy bytes ≡ newBytes r bytes (drop at old) (drop n z) (drop m z)
     unfolding strideBytes newBytes
     even-bytes bytes =
         let w : ℕ = bytesOf (r .wide) in
-        rw (← bytes-of-wide)
+        rw (← bytes-of-wide r lane wide (v .bits))
         (vector-cong (strideStep lane wide unsigned subtract old at z x dx y dy) (newElement r (drop at old) (drop n z) (drop m z)) w (bytes / w) (λ e h. sym (even-element e)))
 
 -- ---- A and B
@@ -77,11 +69,6 @@ half-even : {lane : ℕ} → IsLane lane → (n part e : ℕ) → n + chosen (si
 half-even (inl h) n part e = rw h (omega arith)
 half-even (inr (inl h)) n part e = rw h (omega arith)
 half-even (inr (inr h)) n part e = rw h (omega arith)
-
-pairs-even : {lane : ℕ} → IsLane lane → (n part e : ℕ) → n + chosen (sizeOf lane) (halfOf part (sizeOf lane)) e * bytesOf (sizeOf lane) ≡ n + part * 8 + e * (1 * (lane / 8))
-pairs-even (inl h) n part e = rw h (omega arith)
-pairs-even (inr (inl h)) n part e = rw h (omega arith)
-pairs-even (inr (inr h)) n part e = rw h (omega arith)
 
 index-even : {lane : ℕ} → IsLane lane → (m index e : ℕ) → m + chosen (sizeOf lane) (each 0 index) e * bytesOf (sizeOf lane) ≡ m + index * (lane / 8) + e * (0 * (lane / 8))
 index-even (inl h) m index e = rw h (omega arith)
@@ -115,8 +102,8 @@ module _ {f : Fields} {w : ℕ} {z : List ℕ} (p : Sources f w z) where
   pub index-small : f .index * (f .lane / 8) ≤ 16
   index-small = omega (arith, index-in (p .ranges .lane) (f .index) (p .ranges .index))
 
-  pub half-places : (At + 16 ≤ length z) × (X + 8 ≤ length z)
-  half-places = (
+  pub v-places : (At + 16 ≤ length z) × (X + 8 ≤ length z)
+  v-places = (
     omega (arith, register-there p (f .destination) (p .ranges .destination), p .width .least),
     omega (arith, register-there p (f .first) (source-lt f (p .ranges) .0), p .width .least, p .ranges .part),
   )
@@ -130,25 +117,24 @@ module _ {f : Fields} {w : ℕ} {z : List ℕ} (p : Sources f w z) where
   pub pairs-there : Reach (f .lane) (64 / f .lane) z (f .second * w + f .part * 8) (1 * (f .lane / 8))
   pairs-there = half-reach (p .ranges .lane) (f .second * w) (f .part) (length z) (p .ranges .part) second-there
 
-  half-renewal : IntoV f → (y dy : ℕ) → Even (recipeOf (f .family) f 0) (f .lane) (2 * f .lane) (f .unsigned) (f .subtract) (f .first * w) X (f .lane / 8) (f .second * w) y dy
+  v-renewal : IntoV f → (y dy : ℕ) → Even (recipeOf (f .family) f 0) (f .lane) (2 * f .lane) (f .unsigned) (f .subtract) (f .first * w) X (f .lane / 8) (f .second * w) y dy
       → (z′ : List ℕ) (t : ℕ)
       → Replaced At t (strideBytes (f .lane) (2 * f .lane) (f .unsigned) (f .subtract) z At z X (f .lane / 8) y dy 16) z z′
       → Replaced At t (made f 0 (newLength (f .family) w) w (f .destination) z (f .first) (f .second) z) z z′
-  half-renewal i y dy v z′ t =
+  v-renewal i y dy v z′ t =
       renewal p 0 (first-source p) (newLength (f .family) w) refl (f .destination) (f .first) (f .second) z _ z′ t
       (even-bytes v z At z 16
-      ∙ ap (λ (n : ℕ). newBytes (recipeOf (f .family) f 0) n (drop At z) (drop (f .first * w) z) (drop (f .second * w) z)) (sym (half-vector f w i)))
+      ∙ ap (λ (n : ℕ). newBytes (recipeOf (f .family) f 0) n (drop At z) (drop (f .first * w) z) (drop (f .second * w) z)) (sym (v-length f w i)))
 
   pub by-element : f .family ≡ ByElement → (z′ : List ℕ) (t : ℕ)
       → Replaced At t (strideBytes (f .lane) (2 * f .lane) (f .unsigned) (f .subtract) z At z X (f .lane / 8) (f .second * w + f .index * (f .lane / 8)) (0 * (f .lane / 8)) 16) z z′
       → Replaced At t (made f 0 (newLength (f .family) w) w (f .destination) z (f .first) (f .second) z) z z′
   by-element e =
-      half-renewal (inl e) _ _
+      v-renewal (inl e) _ _
       (subst (λ (x : Family). Even (recipeOf x f 0) (f .lane) (2 * f .lane) (f .unsigned) (f .subtract) (f .first * w) X (f .lane / 8) (f .second * w) (f .second * w + f .index * (f .lane / 8)) (0 * (f .lane / 8))) (sym e)
       (record {
         wraps = refl;
-        lane-bits = bits-of-lane (p .ranges .lane);
-        wide-bits = bits-of-doubled (p .ranges .lane);
+        bits = record { lane-bits = bits-of-lane (p .ranges .lane); wide-bits = bits-of-doubled (p .ranges .lane) };
         signs = refl;
         operation = refl;
         first = half-even (p .ranges .lane) (f .first * w) (f .part);
@@ -159,35 +145,34 @@ module _ {f : Fields} {w : ℕ} {z : List ℕ} (p : Sources f w z) where
       → Replaced At t (strideBytes (f .lane) (2 * f .lane) (f .unsigned) (f .subtract) z At z X (f .lane / 8) (f .second * w + f .part * 8) (1 * (f .lane / 8)) 16) z z′
       → Replaced At t (made f 0 (newLength (f .family) w) w (f .destination) z (f .first) (f .second) z) z z′
   by-pairs e =
-      half-renewal (inr e) _ _
+      v-renewal (inr e) _ _
       (subst (λ (x : Family). Even (recipeOf x f 0) (f .lane) (2 * f .lane) (f .unsigned) (f .subtract) (f .first * w) X (f .lane / 8) (f .second * w) (f .second * w + f .part * 8) (1 * (f .lane / 8))) (sym e)
       (record {
         wraps = refl;
-        lane-bits = bits-of-lane (p .ranges .lane);
-        wide-bits = bits-of-doubled (p .ranges .lane);
+        bits = record { lane-bits = bits-of-lane (p .ranges .lane); wide-bits = bits-of-doubled (p .ranges .lane) };
         signs = refl;
         operation = refl;
         first = half-even (p .ranges .lane) (f .first * w) (f .part);
-        second = pairs-even (p .ranges .lane) (f .second * w) (f .part);
+        second = λ e. half-even (p .ranges .lane) (f .second * w) (f .part) e ∙ ap (λ (x : ℕ). f .second * w + f .part * 8 + e * x) (omega arith);
       }))
 
 -- ---- D and E
 
 -- k, with the lanes that go with it
-abbrev Kinds : ℕ → ℕ → Type 0
-Kinds k lane = ((k ≡ 4) × (lane ≡ 8)) ⊎ (((k ≡ 4) × (lane ≡ 16)) ⊎ ((k ≡ 2) × (lane ≡ 16)))
+abbrev LanesOf : ℕ → ℕ → Type 0
+LanesOf k lane = ((k ≡ 4) × (lane ≡ 8)) ⊎ (((k ≡ 4) × (lane ≡ 16)) ⊎ ((k ≡ 2) × (lane ≡ 16)))
 
-array-kinds : {k lane : ℕ} → Kinds k lane → OfArray lane (k * lane)
-array-kinds (inl h) = rw (h .0, h .1) (inl (refl, refl))
-array-kinds (inr (inl h)) = rw (h .0, h .1) (inr (inl (refl, refl)))
-array-kinds (inr (inr h)) = rw (h .0, h .1) (inr (inr (refl, refl)))
+array-lanes : {k lane : ℕ} → LanesOf k lane → OfArray lane (k * lane)
+array-lanes (inl h) = rw (h .0, h .1) (inl (refl, refl))
+array-lanes (inr (inl h)) = rw (h .0, h .1) (inr (inl (refl, refl)))
+array-lanes (inr (inr h)) = rw (h .0, h .1) (inr (inr (refl, refl)))
 
-array-even : {k lane : ℕ} → Kinds k lane → (n i e : ℕ) → n + chosen (sizeOf lane) (each k i) e * bytesOf (sizeOf lane) ≡ n + i * (lane / 8) + e * (k * lane / 8)
+array-even : {k lane : ℕ} → LanesOf k lane → (n i e : ℕ) → n + chosen (sizeOf lane) (each k i) e * bytesOf (sizeOf lane) ≡ n + i * (lane / 8) + e * (k * lane / 8)
 array-even (inl h) n i e = rw (h .0, h .1) (omega arith)
 array-even (inr (inl h)) n i e = rw (h .0, h .1) (omega arith)
 array-even (inr (inr h)) n i e = rw (h .0, h .1) (omega arith)
 
-array-reach : {k lane : ℕ} → Kinds k lane → (n i w long : ℕ) → i < k → n + w ≤ long
+array-reach : {k lane : ℕ} → LanesOf k lane → (n i w long : ℕ) → i < k → n + w ≤ long
     → (i * (lane / 8) ≤ 8) × (k * lane ≤ 64) × (n + i * (lane / 8) + w + lane / 8 ≤ long + k * lane / 8)
 array-reach (inl h) n i w long = rw (h .0, h .1) (λ l q. (omega arith, omega arith, omega arith))
 array-reach (inr (inl h)) n i w long = rw (h .0, h .1) (λ l q. (omega arith, omega arith, omega arith))
@@ -198,24 +183,22 @@ module _ (f : Fields) (g : Ranges f) (i n m : ℕ) where
   EvenArray family k =
       Even (recipeOf family f i) (f .lane) (k * f .lane) (f .unsigned) (f .subtract) n (n + i * (f .lane / 8)) (k * f .lane / 8) m (m + i * (f .lane / 8)) (k * f .lane / 8)
 
-  even-d : Kinds 4 (f .lane) → (f .lane ≡ 8) ⊎ (f .lane ≡ 16) → EvenArray LongLong 4
+  even-d : LanesOf 4 (f .lane) → (f .lane ≡ 8) ⊎ (f .lane ≡ 16) → EvenArray LongLong 4
   even-d h l =
       record {
         wraps = refl;
-        lane-bits = bits-of-lane (g .lane);
-        wide-bits = bits-of-quadrupled l;
+        bits = record { lane-bits = bits-of-lane (g .lane); wide-bits = bits-of-quadrupled l };
         signs = refl;
         operation = refl;
         first = array-even h n i;
         second = array-even h m i;
       }
 
-  even-e : Kinds 2 (f .lane) → EvenArray Long 2
+  even-e : LanesOf 2 (f .lane) → EvenArray Long 2
   even-e h =
       record {
         wraps = refl;
-        lane-bits = bits-of-lane (g .lane);
-        wide-bits = bits-of-doubled (g .lane);
+        bits = record { lane-bits = bits-of-lane (g .lane); wide-bits = bits-of-doubled (g .lane) };
         signs = refl;
         operation = refl;
         first = array-even h n i;
@@ -223,22 +206,22 @@ module _ (f : Fields) (g : Ranges f) (i n m : ℕ) where
       }
 
   -- of the k that the code was told
-  even-array : IntoZa f → (k : ℕ) → k ≡ perSource (f .family) → Kinds k (f .lane) × EvenArray (f .family) k
+  even-array : IntoZa f → (k : ℕ) → k ≡ perSource (f .family) → LanesOf k (f .lane) × EvenArray (f .family) k
   even-array (inl e) k ek =
       let o : OfFamily LongLong f = subst (λ (x : Family). OfFamily x f) e (g .of-family) in
-      let h : Kinds 4 (f .lane) = ⊎-elim (λ (q : f .lane ≡ 8). inl (refl, q)) (λ (q : f .lane ≡ 16). inr (inl (refl, q))) (o .1) in
-      subst (λ (c : ℕ). Kinds c (f .lane) × EvenArray (f .family) c) (sym (ek ∙ ap perSource e)) (h, subst (λ (x : Family). EvenArray x 4) (sym e) (even-d h (o .1)))
+      let h : LanesOf 4 (f .lane) = ⊎-elim (λ (q : f .lane ≡ 8). inl (refl, q)) (λ (q : f .lane ≡ 16). inr (inl (refl, q))) (o .1) in
+      subst (λ (c : ℕ). LanesOf c (f .lane) × EvenArray (f .family) c) (sym (ek ∙ ap perSource e)) (h, subst (λ (x : Family). EvenArray x 4) (sym e) (even-d h (o .1)))
   even-array (inr e) k ek =
       let o : OfFamily Long f = subst (λ (x : Family). OfFamily x f) e (g .of-family) in
-      let h : Kinds 2 (f .lane) = inr (inr (refl, o .1)) in
-      subst (λ (c : ℕ). Kinds c (f .lane) × EvenArray (f .family) c) (sym (ek ∙ ap perSource e)) (h, subst (λ (x : Family). EvenArray x 2) (sym e) (even-e h))
+      let h : LanesOf 2 (f .lane) = inr (inr (refl, o .1)) in
+      subst (λ (c : ℕ). LanesOf c (f .lane) × EvenArray (f .family) c) (sym (ek ∙ ap perSource e)) (h, subst (λ (x : Family). EvenArray x 2) (sym e) (even-e h))
 
 module _ {f : Fields} {w : ℕ} {z za : List ℕ} (p : Places f w z za) (k : ℕ) (ek : k ≡ perSource (f .family)) where
-  kinds : Kinds k (f .lane)
+  kinds : LanesOf k (f .lane)
   kinds = even-array f (p .sources .ranges) 0 0 0 (p .into) k ek .0
 
   pub of-array : OfArray (f .lane) (k * f .lane)
-  of-array = array-kinds kinds
+  of-array = array-lanes kinds
 
   module _ (r i : ℕ) (hr : r < f .group) (hi : i < k) where
     abbrev From : ℕ → ℕ

@@ -21,18 +21,18 @@ use Rattle.recipes.specs.Element.{newBytes}
 use Rattle.recipes.proofs.Built.{length-newBytes}
 use Rattle.machine.specs.Loop.{made, Grid, place, fresh, Places}
 use Rattle.machine.proofs.Grid.{place-lt, place-distinct}
-use Rattle.machine.proofs.Array.{za-facts}
+use Rattle.machine.proofs.Array.{group-numbers, two-or-four-vectors}
 
 module _ {f : Fields} {w : ℕ} {z za₀ : List ℕ} (p : Places f w z za₀) {stride k first : ℕ} (g : Grid w (f .group) stride k first) where
   -- 16 vectors at most
   pub few-vectors : k ≡ perSource (f .family) → f .group * k ≤ 16
-  few-vectors e = by (za-facts f (p .sources .ranges) (p .into))
+  few-vectors e = by (group-numbers f (p .sources .ranges) (p .into)) (two-or-four-vectors f (p .into) k e)
     where
-      by : ((f .group ≡ 2) ⊎ (f .group ≡ 4)) × ((perSource (f .family) ≡ 4) ⊎ (perSource (f .family) ≡ 2)) → f .group * k ≤ 16
-      by (inl a, inl b) = rw (a, e, b) (omega arith)
-      by (inl a, inr b) = rw (a, e, b) (omega arith)
-      by (inr a, inl b) = rw (a, e, b) (omega arith)
-      by (inr a, inr b) = rw (a, e, b) (omega arith)
+      by : (f .group ≡ 2) ⊎ (f .group ≡ 4) → (k ≡ 2) ⊎ (k ≡ 4) → f .group * k ≤ 16
+      by (inl a) (inl b) = rw (a, b) (omega arith)
+      by (inl a) (inr b) = rw (a, b) (omega arith)
+      by (inr a) (inl b) = rw (a, b) (omega arith)
+      by (inr a) (inr b) = rw (a, b) (omega arith)
 
   -- vector q, by its r and i
   pub row-lt : (q r i : ℕ) → q < f .group * k → r ≡ q / k → i ≡ q % k → (first + r * stride + i < w) × (r < f .group) × (i < k)

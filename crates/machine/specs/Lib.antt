@@ -1,9 +1,5 @@
 pub mod Modes
 pub mod Step
 pub mod Execute
-pub mod Theorems
 pub mod Run
-pub mod Sweep
-pub mod SweepExamples
-pub mod Calls
 pub mod Loop

@@ -10,18 +10,19 @@ ghost use Rattle.recipes.specs.Recipe.{newLength, perSource};
 ghost use Rattle.machine.specs.Modes.{permits};
 ghost use Rattle.machine.specs.Step.{zaAfter};
 ghost use Rattle.machine.specs.Loop.{made, Grid, place, fresh, IntoV, Sources, Places, Ready};
-ghost use Rattle.machine.specs.Execute.{executedSays, writtenBits, stepped, Stepped, executeFields, executeDecoded, rightLengths, ExecutePromise};
+ghost use Rattle.machine.specs.Execute.{executedSays, writtenBits, stepped, Stepped, executeFields, rightLengths, ExecutePromise};
 ghost use Rattle.machine.specs.declared.Executed.the-variants.{Done};
 ghost use Rattle.words.specs.declared.Family.the-variants.{Saturating};
 ghost use Rattle.words.specs.Ranges.{Ranges};
-ghost use Rattle.words.specs.Decode.{decodeEnabled};
+ghost use Rattle.words.specs.Says.{As, describe};
+ghost use Rattle.words.specs.Kinds.{fieldsAs};
 use settings::Features;
 use settings::Modes;
 use settings::Refusal;
 use settings::Settings;
-use words::Decoded;
 use words::Family;
 use words::Fields;
+use words::Kind;
 
 // The bits that a step changed, and those that it wrote.
 pub struct Counts {
@@ -37,7 +38,7 @@ pub enum Executed {
 
 // A, B: the low 16 bytes of the destination become new; registers have w bytes. In A each element takes the one lane at the index of the second
 // source, and in B its own. Answers how many bits changed.
-fn step_half(fields: Fields, w: usize, z: &mut [u8]) -> u32
+fn step_v(fields: Fields, w: usize, z: &mut [u8]) -> u32
     requires { ⌜ Sources fields w (now z) ⌝ }
     requires { ⌜ IntoV fields ⌝ }
     ensures { λ t. ⌜ Replaced (fields .destination * w) t
@@ -55,9 +56,9 @@ fn step_half(fields: Fields, w: usize, z: &mut [u8]) -> u32
     match family {
         Family::ByElement => {
             let index = fields.index as usize * (lane / 8);
-            chunks::renew_half(lane, unsigned, subtract, z, at, x, y + index, 0)
+            chunks::renew_v(lane, unsigned, subtract, z, at, x, y + index, 0)
         }
-        _ => chunks::renew_half(lane, unsigned, subtract, z, at, x, y + part, 1),
+        _ => chunks::renew_v(lane, unsigned, subtract, z, at, x, y + part, 1),
     }
 }
 
@@ -69,13 +70,12 @@ fn step_saturating(fields: Fields, w: usize, z: &mut [u8]) -> u32
         (made fields 0 (newLength (fields .family) w) w (fields .destination) (now (z .entry)) (fields .first) (fields .second) (now (z .entry)))
         (now (z .entry)) (now (z .exit)) ⌝ }
 {
-    let mut scratch = [0u8; 64];
-    let out = &mut scratch[..w];
-    let recipe = recipes::recipe_of(fields, 0);
+    let mut room = [0u8; 64];
+    let out = &mut room[..w];
     let at = fields.destination as usize * w;
     let n = fields.first as usize * w;
     let m = fields.second as usize * w;
-    recipes::build(recipe, z, at, z, n, m, out);
+    recipes::build(fields, z, at, n, m, out);
     bits::replace(z, at, out)
 }
 
@@ -109,7 +109,7 @@ fn step_vector(
 }
 
 // q / k, where k is 2 or 4: the vectors of a source register, or the group. A division by a numeral is a shift.
-fn over(q: usize, k: usize) -> usize
+fn quotient(q: usize, k: usize) -> usize
     requires { ⌜ (k ≡ 2) ⊎ (k ≡ 4) ⌝ }
     ensures { λ r. ⌜ r ≡ q / k ⌝ }
 {
@@ -120,7 +120,7 @@ fn over(q: usize, k: usize) -> usize
 }
 
 // q % k, likewise.
-fn past(q: usize, k: usize) -> usize
+fn remainder(q: usize, k: usize) -> usize
     requires { ⌜ (k ≡ 2) ⊎ (k ≡ 4) ⌝ }
     ensures { λ r. ⌜ r ≡ q % k ⌝ }
 {
@@ -148,8 +148,8 @@ fn step_vectors(
     let mut t: u32 = 0;
     let mut q: usize = 0;
     while q < count {
-        let r = over(q, k);
-        let i = past(q, k);
+        let r = quotient(q, k);
+        let i = remainder(q, k);
         t += step_vector(fields, w, k, first + r * stride + i, r, i, z, za);
         q += 1;
     }
@@ -163,10 +163,10 @@ fn step_array(settings: Settings, fields: Fields, k: usize, z: &[u8], za: &mut [
     ensures { λ t. ⌜ (now (za .exit) ≡ zaAfter settings fields (now (z .entry)) (now (za .entry))) × (t ≡ toggled (now (za .entry)) (now (za .exit))) ⌝ }
 {
     let w = settings.array_bytes() as usize;
-    let stride = over(w, fields.group as usize);
+    let stride = quotient(w, fields.group as usize);
     let number = settings.select_register(fields.select) as usize;
     let selected = (number + fields.offset as usize) % stride;
-    let first = selected - past(selected, k);
+    let first = selected - remainder(selected, k);
     step_vectors(fields, w, first, stride, k, z, za)
 }
 
@@ -227,8 +227,8 @@ fn step_files(settings: Settings, fields: Fields, w: usize, z: &mut [u8], za: &m
 {
     let family = fields.family;
     match family {
-        Family::ByElement => step_half(fields, w, z),
-        Family::Vector => step_half(fields, w, z),
+        Family::ByElement => step_v(fields, w, z),
+        Family::Vector => step_v(fields, w, z),
         Family::Saturating => step_saturating(fields, w, z),
         _ => step_array(settings, fields, per_source(family), z, za),
     }
@@ -251,31 +251,31 @@ fn step(settings: Settings, fields: Fields, z: &mut [u8], za: &mut [u8]) -> Coun
     }
 }
 
-// 4, or the step.
-fn execute_fields(settings: Settings, fields: Fields, z: &mut [u8], za: &mut [u8]) -> Executed
+// 4, or the step. The fields are read last: a word that is refused needs none.
+fn execute_kind(settings: Settings, kind: Kind, word: u32, z: &mut [u8], za: &mut [u8]) -> Executed
     requires { ⌜ Ready settings (now z) (now za) ⌝ }
-    requires { ⌜ Ranges fields ⌝ }
-    ensures { λ r. ⌜ executedSays r (now (z .exit)) (now (za .exit)) ≡ executeFields settings fields (now (z .entry)) (now (za .entry)) ⌝ }
+    requires { ⌜ describe word ≡ As (fieldsAs kind word) ⌝ }
+    ensures { λ r. ⌜ executedSays r (now (z .exit)) (now (za .exit)) ≡ executeFields settings (fieldsAs kind word) (now (z .entry)) (now (za .entry)) ⌝ }
 {
     let features = settings.features;
     let modes = settings.modes;
-    let family = fields.family;
-    if !permitted(features, modes, family) {
+    if !permitted(features, modes, words::kind_family(kind)) {
         return Executed::Refused(Refusal::WrongMode);
     }
-    Executed::Done(step(settings, fields, z, za))
+    Executed::Done(step(settings, words::fields_of(kind, word), z, za))
 }
 
-// 3, 4, or the step.
-fn execute_word(settings: Settings, word: u32, z: &mut [u8], za: &mut [u8]) -> Executed
+// 3, 4, or the step: for callers that have tested the settings and the lengths, once for many words.
+pub fn execute_word(settings: Settings, word: u32, z: &mut [u8], za: &mut [u8]) -> Executed
     requires { ⌜ Ready settings (now z) (now za) ⌝ }
-    ensures { λ r. ⌜ executedSays r (now (z .exit)) (now (za .exit)) ≡ executeDecoded settings (decodeEnabled (settings .features .0) word) (now (z .entry)) (now (za .entry)) ⌝ }
+    ensures { λ r. ⌜ ExecutePromise settings word (now (z .entry)) (now (za .entry)) r (now (z .exit)) (now (za .exit)) ⌝ }
 {
     let features = settings.features;
-    match words::decode_enabled(features, word) {
-        Decoded::Word(fields) => execute_fields(settings, fields, z, za),
-        Decoded::Refused(refusal) => Executed::Refused(refusal),
+    let kind = words::kind_of(word);
+    if words::enables_kind(features, kind, word) {
+        return execute_kind(settings, kind, word, z, za);
     }
+    Executed::Refused(Refusal::UnknownWord)
 }
 
 // Executes one word. Z has 32 registers of VL/8 bytes, and ZA VL/8 vectors of VL/8 bytes. A refusal leaves both as they are.

@@ -37,7 +37,7 @@ onto-short g short e = refl
 onto-short g wrong e = let z : _≡_ {A = ℕ} 0 1 = cc in absurd (omega arith)
 
 -- five bytes are never too few
-pub five-bytes : (k : ℕ) (s : List ℕ) → k ≤ 4 → 5 ≤ k + length s → numeral k s ≢ short
+five-bytes : (k : ℕ) (s : List ℕ) → k ≤ 4 → 5 ≤ k + length s → numeral k s ≢ short
 five-bytes k [] few h e = omega arith
 five-bytes k (b ∷ s) few h e = go (five-bytes (suc k) s) (front k b)
   where
@@ -69,7 +69,7 @@ not-ended : (at : ℕ) (g : Got) → placed at g ≢ Fault ListEnds at → g ≢
 not-ended at g h e = h (ap (placed at) e)
 
 -- bytes after a list change nothing at a place of it, unless the list ended there
-pub not-ended-kept : (list t : List ℕ) (at : ℕ) → numberAt list at ≢ Fault ListEnds at → numberAt (list ++ t) at ≡ numberAt list at
+not-ended-kept : (list t : List ℕ) (at : ℕ) → numberAt list at ≢ Fault ListEnds at → numberAt (list ++ t) at ≡ numberAt list at
 unfolding numberAt
 not-ended-kept list t at h = kept list t at (not-ended at (numeral 0 (drop at list)) h)
 
@@ -77,11 +77,6 @@ not-ended-kept list t at h = kept list t at (not-ended at (numeral 0 (drop at li
 pub number-kept : (list t : List ℕ) (at v n : ℕ) → numberAt list at ≡ Number v n → numberAt (list ++ t) at ≡ Number v n
 number-kept list t at v n e =
     not-ended-kept list t at (λ (f : numberAt list at ≡ Fault ListEnds at). let z : _≡_ {A = ℕ} 0 1 = cc in omega arith) ∙ e
-
--- and so does one that is wrong
-pub bad-kept : (list t : List ℕ) (at p : ℕ) → numberAt list at ≡ Fault BadNumber p → numberAt (list ++ t) at ≡ Fault BadNumber p
-bad-kept list t at p e =
-    not-ended-kept list t at (λ (f : numberAt list at ≡ Fault ListEnds at). let g : ListEnds ≡ BadNumber = cc in let z : _≡_ {A = ℕ} 0 1 = cc in omega arith) ∙ e
 
 -- with five bytes left, bytes after the list change nothing
 pub number-far : (list t : List ℕ) (at : ℕ) → at + 5 ≤ length list → numberAt (list ++ t) at ≡ numberAt list at

@@ -1,6 +1,6 @@
 -- A row of numbers: where it ends, what its numbers are, and that nothing past it is looked at; and the loop of read_numbers. Assumes nothing.
-use Prim.Native.Nat.{ℕ, zero, suc, _+_, _-_, _*_, _^_, _≤_, _<_}
-use mathlib.Core.Path.{_≡_, refl, sym, ap, ap₂, _∙_, subst}
+use Prim.Native.Nat.{ℕ, zero, suc, _+_, _-_, _*_, _≤_, _<_}
+use mathlib.Core.Path.{_≡_, refl, sym, ap, ap₂, _∙_}
 use mathlib.Core.Logic.{_⊎_, inl, inr, ⊎-elim}
 use mathlib.Core.List.{List, [], _∷_, _++_, append-nil}
 use native.Mathlib.Omega.{arith}
@@ -8,7 +8,6 @@ use native.Mathlib.Nat.{add-zero, add-suc}
 use native.Mathlib.Numerals.{add-one}
 use lib.ListN.{length, getD, take, drop, set, length-append, length-set, take-append-drop}
 use lib.Seq.{drop-length, length-take-le, take-suc-set, drop-set-lt, drop-drop}
-use Rattle.laws.proofs.Lists.{Each}
 use Rattle.settings.specs.declared.Refusal.{Refusal}
 use Rattle.settings.specs.declared.Refusal.the-variants.{ListEnds, BadNumber}
 use Rattle.numbers.specs.declared.Read.{Read}
@@ -16,7 +15,7 @@ use Rattle.numbers.specs.declared.Read.the-variants.{Number, Fault}
 use Rattle.numbers.specs.declared.Row.the-variants as row
 use Rattle.numbers.specs.Numbers.{numberAt, put, Numbers, all, fault, joined, more, numbersAt, valuesOf, rowOf, filled}
 use Rattle.numbers.proofs.Shortest.{put-length}
-use Rattle.numbers.proofs.Places.{number-kept, bad-kept, number-far, number-within, number-fault}
+use Rattle.numbers.proofs.Places.{number-kept, number-far, number-within, number-fault}
 
 -- ---- the last number of a row
 
@@ -82,21 +81,6 @@ row-count list at (suc n) ws p e =
     let count : length ws ≡ length (l .before) + 1 = ap length (l .numbers) ∙ length-append (l .before) (l .value ∷ []) in
     omega arith
 
-more-few : (list : List ℕ) (m : Numbers) (n : ℕ) → length (valuesOf m) ≤ n → length (valuesOf (more list m)) ≤ suc n
-unfolding valuesOf
-more-few list (all vs q) n h = go (numberAt list q)
-  where
-    go : (r : Read) → length (valuesOf (joined vs r)) ≤ suc n
-    go (Number w p) = omega (arith, length-append vs (w ∷ []))
-    go (Fault k p) = omega arith
-more-few list (fault vs k q) n h = omega arith
-
--- no more numbers are read than were asked for
-pub values-few : (list : List ℕ) (at n : ℕ) → length (valuesOf (numbersAt list at n)) ≤ n
-unfolding numbersAt valuesOf
-values-few list at zero = omega arith
-values-few list at (suc n) = more-few list (numbersAt list at n) n (values-few list at n)
-
 -- a row has as many numbers as were asked for, and stands in the list; none has more than five bytes
 pub row-within : (list : List ℕ) (at n : ℕ) (ws : List ℕ) (p : ℕ) → at ≤ length list → numbersAt list at n ≡ all ws p
     → (length ws ≡ n) × (at ≤ p) × (p ≤ length list) × (p ≤ at + 5 * n)
@@ -130,21 +114,6 @@ row-first list at (suc n) ws p e =
     let same : getD ws 0 0 ≡ getD (l .before) 0 0 = ap (λ (x : List ℕ). getD x 0 0) (l .numbers) ∙ first-stays (l .before) (l .value) some in
     (b .0, b .1 ∙ ap (λ (v : ℕ). Number v (b .0)) (sym same))
 
-each-last : (ws : List ℕ) (w : ℕ) → Each (λ x. x < 2 ^ 32) ws → w < 2 ^ 32 → Each (λ x. x < 2 ^ 32) (ws ++ w ∷ [])
-each-last [] w e h = (h, tt)
-each-last (x ∷ ws) w e h = (e .0, each-last ws w (e .1) h)
-
--- each number of a row is below 2 ^ 32
-pub row-small : (list : List ℕ) (at n : ℕ) (ws : List ℕ) (p : ℕ) → numbersAt list at n ≡ all ws p → Each (λ w. w < 2 ^ 32) ws
-unfolding numbersAt
-row-small list at zero ws p e =
-    let none : [] ≡ ws = cc in
-    subst (Each (λ w. w < 2 ^ 32)) none tt
-row-small list at (suc n) ws p e =
-    let l = last-of list (numbersAt list at n) ws p e in
-    let w = number-within list (l .place) (l .value) p (l .number) in
-    subst (Each (λ w. w < 2 ^ 32)) (sym (l .numbers)) (each-last (l .before) (l .value) (row-small list at n (l .before) (l .place) (l .row)) (w .below))
-
 -- bytes after the list change nothing in a row that was read
 pub row-kept : (list t : List ℕ) (at n : ℕ) (ws : List ℕ) (p : ℕ) → numbersAt list at n ≡ all ws p → numbersAt (list ++ t) at n ≡ all ws p
 unfolding numbersAt
@@ -154,18 +123,6 @@ row-kept list t at (suc n) ws p e =
     ap (more (list ++ t)) (row-kept list t at n (l .before) (l .place) (l .row))
     ∙ ap (joined (l .before)) (number-kept list t (l .place) (l .value) p (l .number))
     ∙ ap (λ (x : List ℕ). all x p) (sym (l .numbers))
-
--- nor in one with a number that is wrong
-pub row-bad-kept : (list t : List ℕ) (at n : ℕ) (vs : List ℕ) (p : ℕ) → numbersAt list at n ≡ fault vs BadNumber p → numbersAt (list ++ t) at n ≡ fault vs BadNumber p
-unfolding numbersAt
-row-bad-kept list t at zero vs p e = let z : _≡_ {A = ℕ} 0 1 = cc in absurd (omega arith)
-row-bad-kept list t at (suc n) vs p e =
-    ⊎-elim
-    (λ (f : numbersAt list at n ≡ fault vs BadNumber p). ap (more (list ++ t)) (row-bad-kept list t at n vs p f))
-    (λ (f : FaultIs list (numbersAt list at n) vs BadNumber p).
-    ap (more (list ++ t)) (row-kept list t at n vs (f .place) (f .row))
-    ∙ ap (joined vs) (bad-kept list t (f .place) p (f .number)))
-    (fault-of list (numbersAt list at n) vs BadNumber p e)
 
 far-more : (list t : List ℕ) (at n : ℕ) (m : Numbers) → at + 5 * suc n ≤ length list → numbersAt list at n ≡ m → more (list ++ t) m ≡ more list m
 far-more list t at n (all ws p) h e =

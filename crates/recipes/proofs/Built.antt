@@ -4,14 +4,12 @@ use native.Mathlib.Omega.{arith}
 use mathlib.Core.Path.{_≡_, _∙_}
 use mathlib.Core.List.{List}
 use lib.ListN.{length, take}
-use Rattle.elements.specs.Size.{bytesOf}
-use Rattle.elements.specs.declared.Size.{Size}
-use Rattle.elements.specs.declared.Size.the-variants.{Bits8, Bits16, Bits32, Bits64}
+use Rattle.elements.specs.Size.{Size, Bits8, Bits16, Bits32, Bits64, bytesOf}
 use Rattle.elements.proofs.Elements.{Bytes, elementAt-take}
 use Rattle.elements.proofs.Vectors.{within, length-vector, vector-cong, Bytes-vector}
+use Rattle.recipes.specs.Recipe.{Recipe}
 use Rattle.recipes.specs.Element.{chosen, newElement, newBytes}
-use Rattle.recipes.specs.Places.{Inside}
-use Rattle.recipes.specs.declared.Recipe.{Recipe}
+use Rattle.recipes.proofs.Inside.{Inside}
 
 -- so many bytes hold whole elements of every size
 pub whole-elements : (bytes : ℕ) → bytes % 8 ≡ 0 → (size : Size) → bytes / bytesOf size * bytesOf size ≡ bytes

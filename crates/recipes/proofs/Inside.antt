@@ -1,5 +1,5 @@
 -- Every element that a recipe takes lies in its register, and what lies beyond the register does not count. Assumes nothing.
-use Prim.Native.Nat.{ℕ, _+_, _-_, _*_, _/_, _%_, _≤_, _<_}
+use Prim.Native.Nat.{ℕ, _+_, _*_, _/_, _%_, _≤_, _<_}
 use native.Mathlib.Omega.{arith}
 use mathlib.Core.Path.{_≡_, refl}
 use mathlib.Core.Logic.{_⊎_, inl, inr}
@@ -11,13 +11,16 @@ use Rattle.words.specs.Ranges.{Ranges, OfFamily}
 use Rattle.words.specs.declared.Family.{Family}
 use Rattle.words.specs.declared.Family.the-variants.{ByElement, Vector, Saturating, LongLong, Long}
 use Rattle.words.specs.declared.Fields.{Fields}
-use Rattle.elements.specs.Size.{bitsOf, bytesOf}
-use Rattle.elements.specs.declared.Size.{Size}
-use Rattle.elements.specs.declared.Size.the-variants.{Bits8, Bits16, Bits32}
-use Rattle.recipes.specs.Recipe.{sizeOf, doubled, each, eachSegment, halfOf, recipeOf, newLength, perSource}
+use Rattle.elements.specs.Size.{Size, Bits8, Bits16, Bits32, bitsOf, bytesOf, IsLane}
+use Rattle.recipes.specs.Recipe.{Choice, Recipe, sizeOf, doubled, each, eachSegment, halfOf, recipeOf, newLength, perSource}
 use Rattle.recipes.specs.Element.{chosen}
-use Rattle.recipes.specs.Places.{Inside}
-use Rattle.recipes.specs.declared.Choice.{Choice}
+
+-- every element that goes into the first `bytes` bytes of a vector lies in the w bytes of its register
+pub record Inside (r : Recipe) (bytes w : ℕ) : Type 0 where
+  pub whole : bytes % 8 ≡ 0
+  pub room : bytes ≤ w
+  pub first : (e : ℕ) → e < bytes / bytesOf (r .wide) → chosen (r .lane) (r .first) e * bytesOf (r .lane) + bytesOf (r .lane) ≤ w
+  pub second : (e : ℕ) → e < bytes / bytesOf (r .wide) → chosen (r .lane) (r .second) e * bytesOf (r .lane) + bytesOf (r .lane) ≤ w
 
 -- what holds of the three sizes of a lane holds of the size of any
 lane-sizes {ℓ} : (P : Size → Type ℓ) → P Bits8 → P Bits16 → P Bits32 → (lane : ℕ) → P (sizeOf lane)
@@ -25,7 +28,7 @@ lane-sizes P a b c lane =
     cond-holds P (eqb lane 8) Bits8 (cond (eqb lane 16) Bits16 Bits32) (λ _. a) (λ _. cond-holds P (eqb lane 16) Bits16 Bits32 (λ _. b) (λ _. c))
 
 -- the size of a lane has the lane's bits
-pub bits-of-lane : {lane : ℕ} → (lane ≡ 8) ⊎ ((lane ≡ 16) ⊎ (lane ≡ 32)) → bitsOf (sizeOf lane) ≡ lane
+pub bits-of-lane : {lane : ℕ} → IsLane lane → bitsOf (sizeOf lane) ≡ lane
 bits-of-lane (inl e) = rw e
 bits-of-lane (inr (inl e)) = rw e
 bits-of-lane (inr (inr e)) = rw e
@@ -57,14 +60,6 @@ fourth-in : (i w e lane : ℕ) → i < 4 → (lane ≡ 8) ⊎ (lane ≡ 16) → 
 fourth-in i w e lane h (inl l) = rw l (λ q. omega arith)
 fourth-in i w e lane h (inr l) = rw l (λ q. omega arith)
 
--- ---- a written element holds the product of two lanes
-
-wide-2 : (lane : ℕ) → bitsOf (sizeOf lane) + bitsOf (sizeOf lane) ≤ bitsOf (doubled (sizeOf lane))
-wide-2 = lane-sizes (λ (s : Size). bitsOf s + bitsOf s ≤ bitsOf (doubled s)) (omega arith) (omega arith) (omega arith)
-
-wide-4 : (lane : ℕ) → bitsOf (sizeOf lane) + bitsOf (sizeOf lane) ≤ bitsOf (doubled (doubled (sizeOf lane)))
-wide-4 = lane-sizes (λ (s : Size). bitsOf s + bitsOf s ≤ bitsOf (doubled (doubled s))) (omega arith) (omega arith) (omega arith)
-
 module _ (f : Fields) (g : Ranges f) (w : ℕ) (v : VectorLength w) where
   index-bits : f .index * bitsOf (sizeOf (f .lane)) < 128
   index-bits = rw (bits-of-lane (g .lane)) (g .index)
@@ -72,7 +67,6 @@ module _ (f : Fields) (g : Ranges f) (w : ℕ) (v : VectorLength w) where
   by-family : (family : Family) → OfFamily family f → (i : ℕ) → i < perSource family → Inside (recipeOf family f i) (newLength family w) w
   by-family ByElement o i h =
       record {
-        wider = wide-2 (f .lane);
         whole = refl;
         room = v .least;
         first = λ e. half-in (f .part) w e (g .part) (v .least) (f .lane);
@@ -80,7 +74,6 @@ module _ (f : Fields) (g : Ranges f) (w : ℕ) (v : VectorLength w) where
       }
   by-family Vector o i h =
       record {
-        wider = wide-2 (f .lane);
         whole = refl;
         room = v .least;
         first = λ e. half-in (f .part) w e (g .part) (v .least) (f .lane);
@@ -88,7 +81,6 @@ module _ (f : Fields) (g : Ranges f) (w : ℕ) (v : VectorLength w) where
       }
   by-family Saturating o i h =
       record {
-        wider = wide-2 (f .lane);
         whole = omega (arith, v .whole);
         room = omega arith;
         first = λ e. twice-in (f .part) w e (g .part) (f .lane);
@@ -96,7 +88,6 @@ module _ (f : Fields) (g : Ranges f) (w : ℕ) (v : VectorLength w) where
       }
   by-family LongLong o i h =
       record {
-        wider = wide-4 (f .lane);
         whole = omega (arith, v .whole);
         room = omega arith;
         first = λ e. fourth-in i w e (f .lane) h (o .1);
@@ -104,7 +95,6 @@ module _ (f : Fields) (g : Ranges f) (w : ℕ) (v : VectorLength w) where
       }
   by-family Long o i h =
       record {
-        wider = wide-2 (f .lane);
         whole = omega (arith, v .whole);
         room = omega arith;
         first = λ e. twice-in i w e h (f .lane);

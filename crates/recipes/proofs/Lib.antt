@@ -1,7 +1,5 @@
 pub mod Inside
 pub mod Built
-pub mod Choosing
-pub mod Steps
-pub mod Turns
+pub mod Saturating
 pub mod Sizes
 pub mod Undone

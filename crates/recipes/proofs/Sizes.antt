@@ -5,21 +5,18 @@ use native.Mathlib.Omega.{arith}
 use mathlib.Core.Path.{_≡_, refl, sym, ap, _∙_}
 use mathlib.Core.Logic.{_⊎_, inl, inr}
 use mathlib.Core.List.{List}
-use Rattle.elements.specs.Size.{bitsOf, bytesOf, perHalf}
+use Rattle.elements.specs.Size.{Size, Bits8, Bits16, Bits32, Bits64, bitsOf, bytesOf, perHalf, IsLane}
 use Rattle.elements.specs.Elements.{element, elementOf}
-use Rattle.elements.specs.declared.Size.{Size}
-use Rattle.elements.specs.declared.Size.the-variants.{Bits8, Bits16, Bits32, Bits64}
 use Rattle.elements.proofs.Elements.{pow256}
 use Rattle.elements.proofs.Vectors.{vector-element}
 use Rattle.lanes.specs.Lane.{step}
 use Rattle.lanes.proofs.Laws.{step-lt}
-use Rattle.recipes.specs.Recipe.{sizeOf, doubled}
+use Rattle.recipes.specs.Recipe.{Recipe, sizeOf, doubled}
 use Rattle.recipes.specs.Element.{chosen, newElement, newBytes}
-use Rattle.recipes.specs.declared.Recipe.{Recipe}
 
 -- ---- sizes in bits
 
-pub bytes-in-bits : (s : Size) → bytesOf s ≡ bitsOf s / 8
+bytes-in-bits : (s : Size) → bytesOf s ≡ bitsOf s / 8
 bytes-in-bits Bits8 = refl
 bytes-in-bits Bits16 = refl
 bytes-in-bits Bits32 = refl
@@ -38,11 +35,7 @@ count-in-bits Bits16 w = omega arith
 count-in-bits Bits32 w = omega arith
 count-in-bits Bits64 w = omega arith
 
--- a lane of 8, 16 or 32 bits
-abbrev pub Lane : ℕ → Type 0
-Lane lane = (lane ≡ 8) ⊎ ((lane ≡ 16) ⊎ (lane ≡ 32))
-
-pub bits-of-doubled : {lane : ℕ} → Lane lane → bitsOf (doubled (sizeOf lane)) ≡ 2 * lane
+pub bits-of-doubled : {lane : ℕ} → IsLane lane → bitsOf (doubled (sizeOf lane)) ≡ 2 * lane
 bits-of-doubled (inl e) = rw e
 bits-of-doubled (inr (inl e)) = rw e
 bits-of-doubled (inr (inr e)) = rw e
@@ -52,7 +45,7 @@ bits-of-quadrupled (inl e) = rw e
 bits-of-quadrupled (inr e) = rw e
 
 -- 64/lane elements of double width are 128 bits
-pub in-half : {lane : ℕ} → Lane lane → 64 / lane ≡ 8 * 16 / (2 * lane)
+pub in-half : {lane : ℕ} → IsLane lane → 64 / lane ≡ 8 * 16 / (2 * lane)
 in-half (inl e) = rw e
 in-half (inr (inl e)) = rw e
 in-half (inr (inr e)) = rw e
@@ -92,7 +85,7 @@ module _ (r : Recipe) (lane wide : ℕ) (b : InBits r lane wide) where
   pub bytes-of-wide : bytesOf (r .wide) ≡ wide / 8
   bytes-of-wide = bytes-in-bits (r .wide) ∙ ap (λ (n : ℕ). n / 8) (b .wide-bits)
 
-  bytes-of-lane : bytesOf (r .lane) ≡ lane / 8
+  pub bytes-of-lane : bytesOf (r .lane) ≡ lane / 8
   bytes-of-lane = bytes-in-bits (r .lane) ∙ ap (λ (n : ℕ). n / 8) (b .lane-bits)
 
   -- as many elements as there are in so many bits

@@ -16,9 +16,8 @@ use Rattle.elements.proofs.Elements.{Bytes, Bytes-take, elementAt-lt, elementAt
 use Rattle.elements.proofs.Vectors.{within, vector-known}
 use Rattle.lanes.specs.Lane.{step}
 use Rattle.lanes.proofs.Laws.{undo-step}
-use Rattle.recipes.specs.Recipe.{recipeOf}
+use Rattle.recipes.specs.Recipe.{Recipe, recipeOf}
 use Rattle.recipes.specs.Element.{chosen, newElement, newBytes}
-use Rattle.recipes.specs.declared.Recipe.{Recipe}
 use Rattle.recipes.proofs.Built.{whole-elements, length-newBytes}
 use Rattle.recipes.proofs.Sizes.{power, element-newBytes}
 

@@ -2,12 +2,10 @@
 use Prim.Native.Nat.{ℕ, _+_, _-_, _*_, _/_, _%_}
 use mathlib.Core.Bool.{cond}
 use mathlib.Core.List.{List}
-use Rattle.elements.specs.Size.{bitsOf, bytesOf, perHalf}
+use Rattle.elements.specs.Size.{Size, bitsOf, bytesOf, perHalf}
 use Rattle.elements.specs.Elements.{element, vector}
-use Rattle.elements.specs.declared.Size.{Size}
 use Rattle.lanes.specs.Lane.{step}
-use Rattle.recipes.specs.declared.Choice.{Choice}
-use Rattle.recipes.specs.declared.Recipe.{Recipe}
+use Rattle.recipes.specs.Recipe.{Choice, Recipe}
 
 -- the first of the double-width elements of e's 128-bit segment: s = e − (e mod (64/lane))
 abbrev pub segmentStart : Size → ℕ → ℕ

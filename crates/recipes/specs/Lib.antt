@@ -1,3 +1,3 @@
 pub mod Recipe
 pub mod Element
-pub mod Places
+pub mod Saturating

@@ -2,14 +2,27 @@
 use Prim.Native.Nat.{ℕ, _*_}
 use mathlib.Core.Bool.{Bool, true, false, cond}
 use lib.Dec.{eqb}
-use Rattle.elements.specs.Size.{perHalf}
-use Rattle.elements.specs.declared.Size.{Size}
-use Rattle.elements.specs.declared.Size.the-variants.{Bits8, Bits16, Bits32, Bits64}
+use Rattle.elements.specs.Size.{Size, Bits8, Bits16, Bits32, Bits64, perHalf}
 use Rattle.words.specs.declared.Family.{Family}
 use Rattle.words.specs.declared.Family.the-variants.{ByElement, Vector, Saturating, LongLong, Long}
 use Rattle.words.specs.declared.Fields.{Fields}
-use Rattle.recipes.specs.declared.Choice.{Choice}
-use Rattle.recipes.specs.declared.Recipe.{Recipe}
+
+-- which element of a source goes into element e: by·e + from; or by·s + from, where s is the first element of e's segment
+pub record Choice : Type 0 where
+  pub by : ℕ
+  pub segmented : Bool
+  pub from : ℕ
+
+-- how a written vector is made
+pub record Recipe : Type 0 where
+  pub saturating : Bool
+  pub unsigned : Bool
+  pub subtract : Bool
+  -- the size of a source element, and that of a written one
+  pub lane : Size
+  pub wide : Size
+  pub first : Choice
+  pub second : Choice
 
 -- the size of a lane of 8, 16 or 32 bits
 abbrev pub sizeOf : ℕ → Size

@@ -1,189 +1,100 @@
+// The recipes say of every family which elements go into which, and they are definitions alone. The code here makes C's new register; those of the
+// other families are made eight bytes at a time, by `chunks`.
 ghost use mathlib.Core.Path.{_≡_};
-ghost use mathlib.Core.Bool.{true};
-ghost use Prim.Native.Nat.{_+_, _*_, _-_, _%_, _/_, _<_, _^_};
+ghost use Prim.Native.Nat.{_+_, _*_, _/_, _^_, _<_, _≤_};
 ghost use lib.ListN.{length, drop};
-ghost use Rattle.recipes.specs.Recipe.{sizeOf, doubled, each, eachSegment, halfOf, recipe as recipePaper, recipeOf};
-ghost use Rattle.recipes.specs.Element.{segmentStart, chosen as chosenPaper, newElement, newBytes};
-ghost use Rattle.recipes.specs.Places.{ElementPlaces, VectorPlaces};
-use elements::Size;
-use words::Family;
+ghost use Rattle.elements.specs.Elements.{elementAt, putAt};
+ghost use Rattle.lanes.specs.Lane.{satStep};
+ghost use Rattle.lanes.specs.Widths.{Widths};
+ghost use Rattle.words.specs.declared.Family.the-variants.{Saturating};
+ghost use Rattle.recipes.specs.Recipe.{recipeOf};
+ghost use Rattle.recipes.specs.Element.{newBytes};
+ghost use Rattle.recipes.specs.Saturating.{OfC, satElement, ElementThere, RegistersThere};
 use words::Fields;
 
-// Which element of a source goes into element e: by·e + from; or by·s + from, where s is the first element of e's segment.
-pub struct Choice {
-    pub by: usize,
-    pub segmented: bool,
-    pub from: usize,
-}
-
-// How a written vector is made. The definitions say it of every family by one; the code builds C's register by it.
-pub struct Recipe {
-    pub saturating: bool,
-    pub unsigned: bool,
-    pub subtract: bool,
-    // The size of a source element, and that of a written one.
-    pub lane: Size,
-    pub wide: Size,
-    pub first: Choice,
-    pub second: Choice,
-}
-
-fn size_of(lane: u32) -> Size
-    ensures { λ r. ⌜ r ≡ sizeOf lane ⌝ }
+// An element of `wide` bits after a step, of the old one and of the lanes at bytes x and y. Widths are literals where it is called, so that the
+// compiler keeps no choice by width.
+fn element(lane: usize, wide: usize, subtract: bool, old: u64, z: &[u8], x: usize, y: usize) -> u64
+    requires { ⌜ Widths lane wide ⌝ }
+    requires { ⌜ old < 2 ^ wide ⌝ }
+    requires { ⌜ (x + lane / 8 ≤ length (now z)) × (y + lane / 8 ≤ length (now z)) ⌝ }
+    ensures { λ r. ⌜ r ≡ satStep lane wide subtract old (elementAt (lane / 8) x (now (z .entry))) (elementAt (lane / 8) y (now (z .entry))) ⌝ }
 {
-    if lane == 8 {
-        return Size::Bits8;
-    }
-    if lane == 16 {
-        return Size::Bits16;
-    }
-    Size::Bits32
+    let a = elements::lane_at(z, x, lane);
+    let b = elements::lane_at(z, y, lane);
+    lanes::sat_step(lane, wide, subtract, old, a, b)
 }
 
-fn double_size(size: Size) -> Size
-    ensures { λ r. ⌜ r ≡ doubled size ⌝ }
-{
-    match size {
-        Size::Bits8 => Size::Bits16,
-        Size::Bits16 => Size::Bits32,
-        Size::Bits32 => Size::Bits64,
-        Size::Bits64 => Size::Bits64,
-    }
-}
-
-fn every(by: usize, from: usize) -> Choice
-    ensures { λ r. ⌜ r ≡ each by from ⌝ }
-{
-    Choice {
-        by: by,
-        segmented: false,
-        from: from,
-    }
-}
-
-fn every_segment(by: usize, from: usize) -> Choice
-    ensures { λ r. ⌜ r ≡ eachSegment by from ⌝ }
-{
-    Choice {
-        by: by,
-        segmented: true,
-        from: from,
-    }
-}
-
-fn half(part: usize, lane: Size) -> Choice
-    requires { ⌜ part < 2 ⌝ }
-    ensures { λ r. ⌜ r ≡ halfOf part lane ⌝ }
-{
-    every(1, part * elements::per_half(lane))
-}
-
-fn with(fields: Fields, saturating: bool, wide: Size, first: Choice, second: Choice) -> Recipe
-    ensures { λ r. ⌜ r ≡ recipePaper fields saturating wide first second ⌝ }
-{
-    Recipe {
-        saturating: saturating,
-        unsigned: fields.unsigned,
-        subtract: fields.subtract,
-        lane: size_of(fields.lane),
-        wide: wide,
-        first: first,
-        second: second,
-    }
-}
-
-// The recipe of the vector that a word of Z writes, and of vector i of those that a word of ZA writes for a source register.
-pub fn recipe_of(fields: Fields, i: usize) -> Recipe
-    requires { ⌜ fields .part < 2 ⌝ }
-    ensures { λ r. ⌜ r ≡ recipeOf (fields .family) fields i ⌝ }
-{
-    let family = fields.family;
-    let lane = size_of(fields.lane);
-    let wide = double_size(lane);
-    let part = fields.part as usize;
-    let index = fields.index as usize;
-    match family {
-        Family::ByElement => with(fields, false, wide, half(part, lane), every(0, index)),
-        Family::Vector => with(fields, false, wide, half(part, lane), half(part, lane)),
-        Family::Saturating => with(fields, true, wide, every(2, part), every_segment(2, index)),
-        Family::LongLong => with(fields, false, double_size(wide), every(4, i), every(4, i)),
-        Family::Long => with(fields, false, wide, every(2, i), every(2, i)),
-    }
-}
-
-fn segment_start(lane: Size, e: usize) -> usize
-    ensures { λ r. ⌜ r ≡ segmentStart lane e ⌝ }
-{
-    match lane {
-        Size::Bits8 => e - e % 8,
-        Size::Bits16 => e - e % 4,
-        Size::Bits32 => e - e % 2,
-        Size::Bits64 => e - e % 1,
-    }
-}
-
-// The element of a source that goes into element e.
-fn chosen(lane: Size, choice: Choice, e: usize) -> usize
-    requires { ⌜ chosenPaper lane choice e < 2 ^ 64 ⌝ }
-    ensures { λ r. ⌜ r ≡ chosenPaper lane choice e ⌝ }
-{
-    let by = choice.by;
-    let from = choice.from;
-    if choice.segmented {
-        return by * segment_start(lane, e) + from;
-    }
-    by * e + from
-}
-
-// Element e of a new vector of C, of the old one from byte `at` on and the sources from bytes `n` and `m` on.
-fn fresh<'a>(
-    recipe: Recipe,
-    old: &'a [u8],
+// Element e of the register at byte `at` after a step, of the sources at bytes n and m. Each lane has its own call, in literals.
+fn fresh(
+    lane: usize,
+    part: usize,
+    index: usize,
+    subtract: bool,
+    z: &[u8],
     at: usize,
-    z: &'a [u8],
     n: usize,
     m: usize,
     e: usize,
 ) -> u64
-    requires { ⌜ ElementPlaces recipe (now old) at (now z) n m e ⌝ }
-    requires { ⌜ recipe .saturating ≡ true ⌝ }
-    ensures { λ r. ⌜ r ≡ newElement recipe (drop at (now (old .entry))) (drop n (now (z .entry))) (drop m (now (z .entry))) e ⌝ }
+    requires { ⌜ OfC lane ⌝ }
+    requires { ⌜ ElementThere lane part index (now z) at n m e ⌝ }
+    ensures { λ r. ⌜ r ≡ satElement lane part index subtract (now (z .entry)) at n m e ⌝ }
 {
-    let lane = recipe.lane;
-    let wide = recipe.wide;
-    let first = recipe.first;
-    let second = recipe.second;
-    let k = elements::bytes_of(lane);
-    let a = elements::element_at(old, at + e * elements::bytes_of(wide), wide);
-    let x = elements::element_at(z, n + chosen(lane, first, e) * k, lane);
-    let y = elements::element_at(z, m + chosen(lane, second, e) * k, lane);
-    lanes::sat_step(lane, wide, recipe.subtract, a, x, y)
+    if lane == 16 {
+        let s = e - e % 4;
+        let old = elements::lane_at(z, at + e * 4, 32);
+        return element(
+            16,
+            32,
+            subtract,
+            old,
+            z,
+            n + (2 * e + part) * 2,
+            m + (2 * s + index) * 2,
+        );
+    }
+    let s = e - e % 2;
+    let old = elements::read8(z, at + e * 8);
+    element(
+        32,
+        64,
+        subtract,
+        old,
+        z,
+        n + (2 * e + part) * 4,
+        m + (2 * s + index) * 4,
+    )
 }
 
-// A new vector of C, built aside: every source is read before the destination changes, which may be one of them. Only C is built
-// so; its step is the one that saturates.
-pub fn build<'a>(
-    recipe: Recipe,
-    old: &'a [u8],
-    at: usize,
-    z: &'a [u8],
-    n: usize,
-    m: usize,
-    out: &mut [u8],
-)
-    requires { ⌜ VectorPlaces recipe (length (now out)) (now old) at (now z) n m ⌝ }
-    requires { ⌜ recipe .saturating ≡ true ⌝ }
-    ensures { λ r. ⌜ now (out .exit) ≡ newBytes recipe (length (now (out .entry))) (drop at (now (old .entry))) (drop n (now (z .entry))) (drop m (now (z .entry))) ⌝ }
+// Element e of `out`, of twice the lane's bits, becomes `new`.
+fn put(lane: usize, out: &mut [u8], e: usize, new: u64)
+    requires { ⌜ OfC lane ⌝ }
+    requires { ⌜ e * (lane / 4) + lane / 4 ≤ length (now out) ⌝ }
+    ensures { λ _. ⌜ now (out .exit) ≡ putAt (lane / 4) (e * (lane / 4)) new (now (out .entry)) ⌝ }
 {
-    let wide = recipe.wide;
-    let k = elements::bytes_of(wide);
-    let count = out.len() / k;
+    if lane == 16 {
+        return elements::put4(out, e * 4, new);
+    }
+    elements::put8(out, e * 8, new)
+}
+
+// The new register of C, of the old one at byte `at` and of the sources at bytes n and m. It is built aside: every source is read before the
+// destination changes, which may be one of them.
+pub fn build(fields: Fields, z: &[u8], at: usize, n: usize, m: usize, out: &mut [u8])
+    requires { ⌜ (fields .family ≡ Saturating) × OfC (fields .lane) ⌝ }
+    requires { ⌜ RegistersThere (fields .lane) (fields .part) (fields .index) (length (now out)) (now z) at n m ⌝ }
+    ensures { λ _. ⌜ now (out .exit) ≡ newBytes (recipeOf (fields .family) fields 0) (length (now (out .entry))) (drop at (now (z .entry))) (drop n (now (z .entry))) (drop m (now (z .entry))) ⌝ }
+{
+    let part = fields.part as usize;
+    let index = fields.index as usize;
+    let subtract = fields.subtract;
+    let lane = fields.lane as usize;
+    let count = out.len() / (lane / 4);
     let mut e: usize = 0;
-    let mut o: usize = 0;
     while e < count {
-        let new = fresh(recipe, old, at, z, n, m, e);
-        elements::put_element(out, o, wide, new);
-        o += k;
+        let new = fresh(lane, part, index, subtract, z, at, n, m, e);
+        put(lane, out, e, new);
         e += 1;
     }
 }

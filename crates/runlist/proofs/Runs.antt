@@ -8,6 +8,7 @@ use lib.ListN.{length, getD, set, take, drop, replicate, length-append, take-app
 use lib.Seq.{drop-cons, drop-length, drop-drop, length-take-le, take-at, drop-at, sets-eq}
 use Rattle.settings.specs.declared.Refusal.{Refusal}
 use Rattle.settings.specs.declared.Settings.{Settings}
+use Rattle.numbers.specs.Numbers.{numbersAt}
 use Rattle.tally.specs.Tally.{plus}
 use Rattle.tally.specs.declared.Tally.{Tally}
 use Rattle.machine.specs.Execute.{Outcome, executePaper, executedSays}
@@ -15,9 +16,11 @@ use Rattle.machine.specs.Run.{Report, reportOf, Run, reportFirst, runOf}
 use Rattle.machine.specs.declared.Executed.{Executed}
 use Rattle.machine.specs.declared.Executed.the-variants.{Done, Refused}
 use Rattle.machine.proofs.Answers.{says-z, says-za}
-use Rattle.machine.proofs.Theorems.{toggled-le-written, few-written}
-use Rattle.runlist.specs.Plan.{Found, found, refused, Asked, planOf}
-use Rattle.runlist.specs.RunList.{noTally, tallied, three, threes, carriedOut, runPaper, RunPromise, threeOf, withThree, Performed}
+use Rattle.machine.proofs.Small as machine
+use Rattle.runlist.specs.Plan.{Found, found, refused, Asked, endedAt, asking, planOf}
+use Rattle.runlist.specs.Rooms.{goesOn}
+use Rattle.runlist.specs.RunList.{noTally, tallied, three, threes, carriedOut, runPaper, runSays, RunPromise, threeOf, withThree, Performed}
+use Rattle.runlist.specs.declared.RunAnswer.{RunAnswer}
 use Rattle.runlist.specs.declared.RunAnswer.the-variants as answer
 use Rattle.runlist.specs.declared.Reported.{Reported}
 
@@ -28,7 +31,7 @@ pub record Running (s : Settings) (ws z₀ za₀ report₀ : List ℕ) (z za rep
   pub reports-left : threes (runOf (executePaper s) ws z₀ za₀ .reports) ≡ take (3 * i) report ++ threes (runOf (executePaper s) (drop i ws) z za .reports)
   pub rest-as-was : drop (3 * i) report ≡ drop (3 * i) report₀
   pub tally-left : tallied noTally (runOf (executePaper s) ws z₀ za₀ .reports) ≡ tallied t (runOf (executePaper s) (drop i ws) z za .reports)
-  pub toggled-small : t .toggled ≤ 8192 * i
+  pub toggled-small : t .toggled ≤ 49152 * i
   pub written-small : t .written ≤ 8192 * i
 
 pub starting : (s : Settings) (ws z za report : List ℕ) → Running s ws z za report z za report noTally 0
@@ -65,11 +68,12 @@ turned s w z za e z′ za′ r p q =
 
 -- its two counts are small
 pub counts-small : (s : Settings) (w : ℕ) (z za z′ za′ : List ℕ) (r : Reported) → Turned (executePaper s w z za) r z′ za′
-    → (r .toggled ≤ 8192) × (r .written ≤ 8192)
+    → (r .toggled ≤ 49152) × (r .written ≤ 8192)
 counts-small s w z za z′ za′ r d =
     let t : r .toggled ≡ executePaper s w z za .toggled = ap (λ (q : Report). q .1) (d .three) in
     let n : r .written ≡ executePaper s w z za .written = ap (λ (q : Report). q .2) (d .three) in
-    (omega (arith, t, toggled-le-written s w z za, few-written s w z za), omega (arith, n, few-written s w z za))
+    let few = machine.counts-small s w z za in
+    (omega (arith, t, few .0), omega (arith, n, few .1))
 
 -- ---- the three numbers in the report: what stands before and after them stays
 
@@ -165,16 +169,31 @@ finished s ws z₀ za₀ report₀ z za report t i e g =
       tally-is = sym (g .tally-left ∙ ap (λ (x : Run). tallied t (x .reports)) over);
     }
 
+-- ---- the words of a list
+
+module _ (s : Settings) (list : List ℕ) (at from : ℕ) (room z za report : List ℕ) where
+  abbrev asked : Found Asked
+  asked = goesOn s list at (length z) from (length room)
+
+  pub not-run : (r : Refusal) (p : ℕ) → refused r p ≡ endedAt list (numbersAt list from (length room))
+      → runSays (answer.Refused r p) z za report ≡ carriedOut asked z za report
+  not-run r p e = ap (λ (f : Found (List ℕ)). carriedOut (asking s (take (length z) (drop at list)) f) z za report) e
+
+  pub is-run : (ws z₀ za₀ : List ℕ) (t : Tally) (z′ za′ report′ : List ℕ) → found ws ≡ endedAt list (numbersAt list from (length room))
+      → z₀ ≡ take (length z) (drop at list) → za₀ ≡ replicate (length za) 0
+      → Performed (runOf (executePaper s) ws z₀ za₀) (length ws) report t z′ za′ report′ → runSays (answer.Ran (length ws) t) z′ za′ report′ ≡ carriedOut asked z za report
+  is-run ws z₀ za₀ t z′ za′ report′ e b a d =
+      rw (d .z-is, d .za-is, d .report-is, d .tally-is, a, b)
+      (ap (λ (f : Found (List ℕ)). carriedOut (asking s (take (length z) (drop at list)) f) z za report) e)
+
 -- ---- the whole list
 
 module _ (list z za report : List ℕ) where
-  pub not-run : (r : Refusal) (p : ℕ) → refused r p ≡ planOf list (length z) (length za) (length report) → RunPromise list z za report (answer.Refused r p) z za report
+  pub refused-run : (r : Refusal) (p : ℕ) → refused r p ≡ planOf list (length z) (length za) (length report) → RunPromise list z za report (answer.Refused r p) z za report
   unfolding runPaper
-  not-run r p e = ap (λ (f : Found Asked). carriedOut f z za report) e
+  refused-run r p e = ap (λ (f : Found Asked). carriedOut f z za report) e
 
-  pub is-run : (s : Settings) (z₀ za₀ ws : List ℕ) (n : ℕ) (t : Tally) (z′ za′ report′ : List ℕ)
-      → found (record { settings = s; z = z₀; words = ws }) ≡ planOf list (length z) (length za) (length report) → za₀ ≡ replicate (length za) 0 → length ws ≡ n
-      → Performed (runOf (executePaper s) ws z₀ za₀) (length ws) report t z′ za′ report′ → RunPromise list z za report (answer.Ran n t) z′ za′ report′
+  pub run-on : (f : Found Asked) (a : RunAnswer) (z′ za′ report′ : List ℕ) → f ≡ planOf list (length z) (length za) (length report)
+      → runSays a z′ za′ report′ ≡ carriedOut f z za report → RunPromise list z za report a z′ za′ report′
   unfolding runPaper
-  is-run s z₀ za₀ ws n t z′ za′ report′ e a l d =
-      rw (d .z-is, d .za-is, d .report-is, d .tally-is, ← l, a) (ap (λ (f : Found Asked). carriedOut f z za report) e)
+  run-on f a z′ za′ report′ e d = d ∙ ap (λ (x : Found Asked). carriedOut x z za report) e

@@ -1,5 +1,3 @@
 pub mod Plan
 pub mod Rooms
 pub mod RunList
-pub mod Theorems
-pub mod Examples

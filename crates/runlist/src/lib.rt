@@ -4,10 +4,11 @@ ghost use Prim.Native.Nat.{_+_, _*_, _≤_};
 ghost use lib.ListN.{length, take, drop, replicate};
 ghost use Rattle.machine.specs.Execute.{executePaper, executedSays};
 ghost use Rattle.machine.specs.Run.{reportOf, runOf};
+ghost use Rattle.machine.specs.Loop.{Ready};
 ghost use Rattle.numbers.specs.Numbers.{numbersAt, filled};
 ghost use Rattle.runlist.specs.Plan.{mostWords, endedAt, settingsOf};
-ghost use Rattle.runlist.specs.Rooms.{wordsSay, AtMost, WordsRead, RestRead, ListRead};
-ghost use Rattle.runlist.specs.RunList.{threeOf, withThree, RunPromise, Performed};
+ghost use Rattle.runlist.specs.Rooms.{wordsSay, goesOn, CountRead, RestRead, FrontRead};
+ghost use Rattle.runlist.specs.RunList.{threeOf, carriedOut, runSays, withThree, RunPromise, Performed};
 use machine::Executed;
 use numbers::Read;
 use numbers::Row;
@@ -20,6 +21,9 @@ use tally::Tally;
 // The most words that a list may have.
 pub const MOST_WORDS: usize = 1024;
 
+// As many words are read into a short room: to zero the long one costs as much as to run a word or two.
+const FEW_WORDS: usize = 64;
+
 // VL, features, modes, W8 to W11.
 pub const HEAD: usize = 7;
 
@@ -29,14 +33,22 @@ pub enum RunAnswer {
     Refused { refusal: Refusal, place: usize },
 }
 
-// What a list asks for: the place of the Z bytes, and the count of its words.
-pub enum Plan {
-    Go { at: usize, words: usize },
-    Refused { refusal: Refusal, place: usize },
+// What stands before the words of a list: the place of the Z bytes, that of the words, and how many there are.
+pub enum Front {
+    Words {
+        at: usize,
+        from: usize,
+        words: usize,
+    },
+    Refused {
+        refusal: Refusal,
+        place: usize,
+    },
 }
 
-enum Words {
-    Count { words: usize },
+// The words of a list.
+pub enum Words {
+    Read,
     Refused { refusal: Refusal, place: usize },
 }
 
@@ -54,9 +66,8 @@ pub fn settings_of(head: &[u32]) -> Settings
 }
 
 // The words from `at` on, as many as `words` has room for, after which the list ends.
-fn read_to_end(list: &[u8], at: usize, words: &mut [u32]) -> Words
+pub fn read_to_end(list: &[u8], at: usize, words: &mut [u32]) -> Words
     ensures { λ r. ⌜ wordsSay r (now (words .exit)) ≡ endedAt (now (list .entry)) (numbersAt (now (list .entry)) at (length (now (words .entry)))) ⌝ }
-    ensures { λ r. ⌜ AtMost (length (now (words .entry))) r ⌝ }
     ensures { λ r. ⌜ now (words .exit) ≡ filled (numbersAt (now (list .entry)) at (length (now (words .entry)))) (now (words .entry)) ⌝ }
 {
     match numbers::read_numbers(list, at, words) {
@@ -71,102 +82,82 @@ fn read_to_end(list: &[u8], at: usize, words: &mut [u32]) -> Words
                     place: next,
                 };
             }
-            Words::Count { words: words.len() }
+            Words::Read
         }
     }
 }
 
-// The count at `at`, and as many words. `room` is how many numbers the report has.
-fn read_words(list: &[u8], room: usize, at: usize, words: &mut [u32]) -> Words
-    requires { ⌜ length (now words) ≡ mostWords ⌝ }
-    ensures { λ r. ⌜ WordsRead (now (list .entry)) room at (now (words .entry)) r (now (words .exit)) ⌝ }
+// The count of the words, behind the z bytes from `at` on. `room` is how many numbers the report has.
+fn read_count(list: &[u8], room: usize, at: usize, z: usize) -> Front
+    requires { ⌜ at + z ≤ length (now list) ⌝ }
+    ensures { λ r. ⌜ CountRead (now (list .entry)) room at z r ⌝ }
 {
-    match numbers::read_number(list, at) {
-        Read::Fault { refusal, place } => Words::Refused {
+    match numbers::read_number(list, at + z) {
+        Read::Fault { refusal, place } => Front::Refused {
             refusal: refusal,
             place: place,
         },
         Read::Number { value, next } => {
             let n = value as usize;
             if n > MOST_WORDS {
-                return Words::Refused {
+                return Front::Refused {
                     refusal: Refusal::TooManyWords,
-                    place: at,
+                    place: at + z,
                 };
             }
             if room < 3 * n {
-                return Words::Refused {
+                return Front::Refused {
                     refusal: Refusal::BadLength,
                     place: 0,
                 };
             }
-            read_to_end(list, next, &mut words[..n])
+            Front::Words {
+                at: at,
+                from: next,
+                words: n,
+            }
         }
     }
 }
 
-// What follows the seven numbers: the settings and the lengths are tested, then come the Z bytes, from `at` on, and the words.
-fn read_rest(
-    list: &[u8],
-    z: usize,
-    za: usize,
-    room: usize,
-    settings: Settings,
-    at: usize,
-    words: &mut [u32],
-) -> Plan
-    requires { ⌜ (at ≤ length (now list)) × (length (now words) ≡ mostWords) ⌝ }
-    ensures { λ r. ⌜ RestRead (now (list .entry)) z za room settings at (now (words .entry)) r (now (words .exit)) ⌝ }
+// What follows the seven numbers: the settings and the lengths are tested, then come the Z bytes, from `at` on, and the count.
+fn read_rest(list: &[u8], z: usize, za: usize, room: usize, settings: Settings, at: usize) -> Front
+    requires { ⌜ at ≤ length (now list) ⌝ }
+    ensures { λ r. ⌜ RestRead (now (list .entry)) z za room settings at r ⌝ }
 {
     if !settings.valid() {
-        return Plan::Refused {
+        return Front::Refused {
             refusal: Refusal::BadSettings,
             place: 0,
         };
     }
     if !machine::right_lengths(settings, z, za) {
-        return Plan::Refused {
+        return Front::Refused {
             refusal: Refusal::BadLength,
             place: 0,
         };
     }
     if list.len() - at < z {
-        return Plan::Refused {
+        return Front::Refused {
             refusal: Refusal::ListEnds,
             place: at,
         };
     }
-    match read_words(list, room, at + z, words) {
-        Words::Refused { refusal, place } => Plan::Refused {
-            refusal: refusal,
-            place: place,
-        },
-        Words::Count { words } => Plan::Go {
-            at: at,
-            words: words,
-        },
-    }
+    read_count(list, room, at, z)
 }
 
-// Reads a list to its end; z, za and room are the lengths of Z, ZA and the report. It writes nothing but its two rooms: `head` for
-// the seven numbers in front, and `words` for the words.
-pub fn read_list(
-    list: &[u8],
-    z: usize,
-    za: usize,
-    room: usize,
-    head: &mut [u32],
-    words: &mut [u32],
-) -> Plan
-    requires { ⌜ (length (now head) ≡ 7) × (length (now words) ≡ mostWords) ⌝ }
-    ensures { λ r. ⌜ ListRead (now (list .entry)) z za room (now (head .entry)) (now (words .entry)) r (now (head .exit)) (now (words .exit)) ⌝ }
+// Reads a list up to its words; z, za and room are the lengths of Z, ZA and the report. It writes nothing but `head`, the room for
+// the seven numbers in front.
+pub fn read_front(list: &[u8], z: usize, za: usize, room: usize, head: &mut [u32]) -> Front
+    requires { ⌜ length (now head) ≡ 7 ⌝ }
+    ensures { λ r. ⌜ FrontRead (now (list .entry)) z za room (now (head .exit)) r ⌝ }
 {
     match numbers::read_numbers(list, 0, head) {
-        Row::Fault { refusal, place } => Plan::Refused {
+        Row::Fault { refusal, place } => Front::Refused {
             refusal: refusal,
             place: place,
         },
-        Row::Next { next } => read_rest(list, z, za, room, settings_of(head), next, words),
+        Row::Next { next } => read_rest(list, z, za, room, settings_of(head), next),
     }
 }
 
@@ -234,6 +225,7 @@ fn perform(
     za: &mut [u8],
     report: &mut [u32],
 ) -> Tally
+    requires { ⌜ Ready settings (now z) (now za) ⌝ }
     requires { ⌜ (length (now words) ≤ mostWords) × (3 * length (now words) ≤ length (now report)) ⌝ }
     ensures { λ t. ⌜ Performed (runOf (executePaper settings) (now (words .entry)) (now (z .entry)) (now (za .entry))) (length (now (words .entry))) (now (report .entry))
         t (now (z .exit)) (now (za .exit)) (now (report .exit)) ⌝ }
@@ -244,7 +236,7 @@ fn perform(
     };
     let mut i = 0;
     while i < words.len() {
-        let numbers = report_of(machine::execute(settings, words[i], z, za));
+        let numbers = report_of(machine::execute_word(settings, words[i], z, za));
         tally = tally::counted(tally, numbers.toggled, numbers.written);
         put_report(report, i, numbers);
         i += 1;
@@ -252,26 +244,61 @@ fn perform(
     tally
 }
 
+// Reads the words from `from` on, as many as `words` has room for, and runs them from the Z bytes at `at` on.
+fn run_words(
+    settings: Settings,
+    list: &[u8],
+    at: usize,
+    from: usize,
+    words: &mut [u32],
+    z: &mut [u8],
+    za: &mut [u8],
+    report: &mut [u32],
+) -> RunAnswer
+    requires { ⌜ Ready settings (now z) (now za) × (at + length (now z) ≤ length (now list)) ⌝ }
+    requires { ⌜ (length (now words) ≤ mostWords) × (3 * length (now words) ≤ length (now report)) ⌝ }
+    ensures { λ r. ⌜ runSays r (now (z .exit)) (now (za .exit)) (now (report .exit))
+        ≡ carriedOut (goesOn settings (now (list .entry)) at (length (now (z .entry))) from (length (now (words .entry)))) (now (z .entry)) (now (za .entry)) (now (report .entry)) ⌝ }
+{
+    match read_to_end(list, from, words) {
+        Words::Refused { refusal, place } => RunAnswer::Refused {
+            refusal: refusal,
+            place: place,
+        },
+        Words::Read => {
+            copy(list, at, z);
+            clear(za);
+            let tally = perform(settings, words, z, za, report);
+            RunAnswer::Ran {
+                words: words.len(),
+                tally: tally,
+            }
+        }
+    }
+}
+
 // Runs a list on Z and ZA that the caller lends, and reports three numbers for each word. A refused list changes nothing.
 pub fn run(list: &[u8], z: &mut [u8], za: &mut [u8], report: &mut [u32]) -> RunAnswer
     ensures { λ r. ⌜ RunPromise (now (list .entry)) (now (z .entry)) (now (za .entry)) (now (report .entry)) r (now (z .exit)) (now (za .exit)) (now (report .exit)) ⌝ }
 {
     let mut head = [0u32; HEAD];
-    let mut words = [0u32; MOST_WORDS];
-    match read_list(list, z.len(), za.len(), report.len(), &mut head, &mut words) {
-        Plan::Refused { refusal, place } => RunAnswer::Refused {
+    match read_front(list, z.len(), za.len(), report.len(), &mut head) {
+        Front::Refused { refusal, place } => RunAnswer::Refused {
             refusal: refusal,
             place: place,
         },
-        Plan::Go { at, words: count } => {
+        Front::Words {
+            at,
+            from,
+            words: count,
+        } => {
             let settings = settings_of(&head);
-            copy(list, at, z);
-            clear(za);
-            let tally = perform(settings, &words[..count], z, za, report);
-            RunAnswer::Ran {
-                words: count,
-                tally: tally,
+            if count <= FEW_WORDS {
+                let mut few = [0u32; FEW_WORDS];
+                return run_words(settings, list, at, from, &mut few[..count], z, za, report);
             }
+            let mut words = [0u32; MOST_WORDS];
+            run_words(settings, list, at, from, &mut words[..count], z, za, report)
         }
     }
 }

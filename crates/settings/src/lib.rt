@@ -103,20 +103,24 @@ pub fn valid_length(vl: u32) -> bool
     (vl == 128) | (vl == 256) | (vl == 512)
 }
 
+// Every sum of the five with SME is valid. Without SME there is neither SME2 nor I16I64, so that the sum is below 4.
 fn valid_features(features: Features) -> bool
     ensures { λ r. ⌜ r ≡ validFeatures (features .0) ⌝ }
 {
-    let sme = features.contains(Features::SME);
-    (features.0 < 32)
-        & (!features.contains(Features::SME2) | sme)
-        & (!features.contains(Features::I16I64) | sme)
+    if features.contains(Features::SME) {
+        return features.0 < 32;
+    }
+    features.0 < 4
 }
 
+// With SME every sum of the two is valid, and without it no mode is on.
 fn valid_modes(features: Features, modes: Modes) -> bool
     ensures { λ r. ⌜ r ≡ validModes (features .0) (modes .0) ⌝ }
 {
-    let sme = features.contains(Features::SME);
-    (modes.0 < 4) & (!modes.contains(Modes::SM) | sme) & (!modes.contains(Modes::ZA) | sme)
+    if features.contains(Features::SME) {
+        return modes.0 < 4;
+    }
+    modes.0 == 0
 }
 
 impl Settings {

@@ -5,18 +5,18 @@ use mathlib.Core.List.{List, [], _∷_}
 use lib.ListN.{length, getD}
 use borrow.Author.Tests.{lt-ltb, le-ltb}
 use Rattle.settings.specs.declared.Settings.{Settings}
-use Rattle.stored.specs.Columns.{digitOf, halfAt, numberOf, settingsOf}
+use Rattle.stored.specs.Columns.{digitOf, fourAt, numberOf, settingsOf}
 
-pub half-is : (l : List ℕ) (at a b c d : ℕ) → a ≡ digitOf (getD l at 0) → b ≡ digitOf (getD l (at + 1) 0) → c ≡ digitOf (getD l (at + 2) 0)
-    → d ≡ digitOf (getD l (at + 3) 0) → a * 4096 + b * 256 + c * 16 + d ≡ halfAt l at
-unfolding halfAt
-half-is l at a b c d ea eb ec ed = rw (ea, eb, ec, ed)
+pub four-is : (l : List ℕ) (at a b c d : ℕ) → a ≡ digitOf (getD l at 0) → b ≡ digitOf (getD l (at + 1) 0) → c ≡ digitOf (getD l (at + 2) 0)
+    → d ≡ digitOf (getD l (at + 3) 0) → a * 4096 + b * 256 + c * 16 + d ≡ fourAt l at
+unfolding fourAt
+four-is l at a b c d ea eb ec ed = rw (ea, eb, ec, ed)
 
 pub number-past : (l : List ℕ) (column : ℕ) → length l / 9 ≤ column → 0 ≡ numberOf l column
 unfolding numberOf
 number-past l column h = rw (le-ltb column (length l / 9) h)
 
-pub number-in : (l : List ℕ) (column high low : ℕ) → column < length l / 9 → high ≡ halfAt l (9 * column) → low ≡ halfAt l (9 * column + 4)
+pub number-in : (l : List ℕ) (column high low : ℕ) → column < length l / 9 → high ≡ fourAt l (9 * column) → low ≡ fourAt l (9 * column + 4)
     → high * 65536 + low ≡ numberOf l column
 unfolding numberOf
 number-in l column high low h eh el = rw (lt-ltb column (length l / 9) h, eh, el)

@@ -11,14 +11,14 @@ abbrev pub digitOf : ℕ → ℕ
 digitOf byte = cond (ltb byte 64) (byte % 16) ((byte + 9) % 16)
 
 -- the number of four digits from a place, the high one first
-unfoldable pub halfAt : List ℕ → ℕ → ℕ
-halfAt l at =
+unfoldable pub fourAt : List ℕ → ℕ → ℕ
+fourAt l at =
     digitOf (getD l at 0) * 4096 + digitOf (getD l (at + 1) 0) * 256 + digitOf (getD l (at + 2) 0) * 16 + digitOf (getD l (at + 3) 0)
 
 -- the number in a column, the first of which is column 0; and 0 past the last
 unfoldable pub numberOf : List ℕ → ℕ → ℕ
-unfolding halfAt
-numberOf l column = cond (ltb column (length l / 9)) (halfAt l (9 * column) * 65536 + halfAt l (9 * column + 4)) 0
+unfolding fourAt
+numberOf l column = cond (ltb column (length l / 9)) (fourAt l (9 * column) * 65536 + fourAt l (9 * column + 4)) 0
 
 -- the settings stand in the first seven columns: VL, features, modes, W8 to W11
 unfoldable pub settingsOf : List ℕ → Settings

@@ -3,7 +3,7 @@
 ghost use mathlib.Core.Path.{_≡_};
 ghost use Prim.Native.Nat.{_+_, _≤_, _<_};
 ghost use lib.ListN.{length};
-ghost use Rattle.stored.specs.Columns.{digitOf, halfAt, numberOf, settingsOf};
+ghost use Rattle.stored.specs.Columns.{digitOf, fourAt, numberOf, settingsOf};
 ghost use Rattle.stored.specs.Contents.{nextState, stateAt, laneByte, extremeByte, contentByte, contents};
 use settings::Features;
 use settings::Modes;
@@ -39,9 +39,9 @@ pub fn digit(byte: u8) -> u32
 }
 
 // Four digits from a place.
-fn half_at(columns: &[u8], at: usize) -> u32
+fn four_at(columns: &[u8], at: usize) -> u32
     requires { ⌜ at + 4 ≤ length (now columns) ⌝ }
-    ensures { λ r. ⌜ (r ≡ halfAt (now (columns .entry)) at) × (r < 65536) ⌝ }
+    ensures { λ r. ⌜ (r ≡ fourAt (now (columns .entry)) at) × (r < 65536) ⌝ }
 {
     digit(columns[at]) * 4096
         + digit(columns[at + 1]) * 256
@@ -58,7 +58,7 @@ pub fn number_of(columns: &[u8], column: usize) -> u32
         return 0;
     }
     let at = COLUMN * column;
-    half_at(columns, at) * 65536 + half_at(columns, at + 4)
+    four_at(columns, at) * 65536 + four_at(columns, at + 4)
 }
 
 // The settings of the case or the sweep that begins with these columns.

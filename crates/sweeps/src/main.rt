@@ -5,7 +5,7 @@ ghost use mathlib.Core.Bool.{true};
 ghost use Prim.Native.Nat.{_+_, _*_, _≤_, _<_};
 ghost use Rattle.settings.specs.Valid.{validSettings};
 ghost use Rattle.machine.specs.Execute.{executedSays};
-ghost use Rattle.machine.specs.Sweep.{undoPaper};
+ghost use Rattle.demands.specs.Sweep.{undoPaper};
 use machine::Counts;
 use machine::Executed;
 use settings::Settings;

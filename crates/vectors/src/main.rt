@@ -6,7 +6,6 @@ use settings::Features;
 use settings::Modes;
 use settings::Settings;
 use words::Decoded;
-use words::Family;
 use words::Fields;
 use words::Partnered;
 
@@ -60,21 +59,10 @@ fn one_if(fact: bool) -> u32
     if fact { 1 } else { 0 }
 }
 
-// The file's number of a family, A to E.
-fn family_number(family: Family) -> u32 {
-    match family {
-        Family::ByElement => 1,
-        Family::Vector => 2,
-        Family::Saturating => 3,
-        Family::LongLong => 4,
-        Family::Long => 5,
-    }
-}
-
 // Whether the line's twelve numbers are these fields.
 fn has_fields(line: &[u8], fields: Fields) -> bool {
     let family = fields.family;
-    (number_of(line, 0) == family_number(family))
+    (number_of(line, 0) == words::family_number(family))
         & (number_of(line, 1) == one_if(fields.unsigned))
         & (number_of(line, 2) == one_if(fields.subtract))
         & (number_of(line, 3) == fields.lane)

@@ -1,7 +1,7 @@
 -- What the promises of decode and partner determine, and what callers take from them. Assumes nothing.
 use Prim.Native.Nat.{ℕ, _<_}
 use native.Mathlib.Omega.{arith}
-use mathlib.Core.Path.{_≡_, refl, sym, ap, _∙_}
+use mathlib.Core.Path.{_≡_, refl, sym, ap, _∙_, subst}
 use mathlib.Core.Logic.{_↔_, _≢_}
 use mathlib.Core.Bool.{true, false}
 use borrow.Author.Tests.{ne-eqb}
@@ -9,20 +9,21 @@ use Rattle.laws.proofs.Tests.{never-both, by-cond}
 use Rattle.settings.specs.Valid.{validSettings}
 use Rattle.settings.specs.declared.Settings.{Settings}
 use Rattle.settings.proofs.Refusals.{refused-not-0, refused-known}
-use Rattle.words.specs.Says.{table, describe}
+use Rattle.words.specs.Says.{Described, As, Nothing, table, describe}
 use Rattle.words.specs.Decode.{enables, noFields, decodedSays, enabledOnly, decodeEnabled, decodePaper}
+use Rattle.words.specs.Kinds.{fieldsAs, saysAs, familyAs, enablesSaid}
 use Rattle.words.specs.Partner.{partnerWord, turned, isC, partneredSays, partnerPaper}
 use Rattle.words.specs.Sign.{partnerIn}
 use Rattle.words.specs.declared.Family.{Family}
 use Rattle.words.specs.declared.Family.the-variants.{ByElement, Vector, Saturating, LongLong, Long}
 use Rattle.words.specs.declared.Fields.{Fields}
-use Rattle.words.specs.declared.Described.the-variants.{As}
+use Rattle.words.specs.declared.Kind.{Kind}
 use Rattle.words.specs.declared.Decoded.{Decoded}
 use Rattle.words.specs.declared.Decoded.the-variants.{Word, Refused}
 use Rattle.words.specs.declared.Partnered as partnered
 use Rattle.words.specs.declared.Partnered.the-variants.{Word as Partner, Refused as NotPartnered}
 use Rattle.words.proofs.Table.{SaidBy, described-exactly}
-use Rattle.words.proofs.Enabled.{enabled-says}
+use Rattle.words.proofs.ByKind.{family-as, kind-refused, kind-enabled}
 use Rattle.words.proofs.Partners.{partner-turned, partner-back, partner-sign}
 
 -- ---- each answer is determined by its promise
@@ -55,6 +56,14 @@ pub record Accepted (s : Settings) (w : ℕ) (f : Fields) : Type 0 where
   pub says : describe w ≡ As f
   pub enabled : enables (s .features .0) f ≡ true
 
+-- an accepted word says the fields, and the features enable it
+enabled-says : (features : ℕ) (d : Described) (f : Fields) → enabledOnly features d ≡ (0, f) → (d ≡ As f) × (enables features f ≡ true)
+enabled-says features (As g) f =
+    by-cond (enables features g) (0, g) (3, noFields) (0, f)
+    (λ t e. let h : g ≡ f = ap (λ (p : ℕ × Fields). p .1) e in (ap As h, subst (λ (x : Fields). enables features x ≡ true) h t))
+    (λ _ e. let z : _≡_ {A = ℕ} 3 0 = ap (λ (p : ℕ × Fields). p .0) e in absurd (omega arith))
+enabled-says features Nothing f = λ e. let z : _≡_ {A = ℕ} 3 0 = ap (λ (p : ℕ × Fields). p .0) e in absurd (omega arith)
+
 decode-accepted : (s : Settings) (w : ℕ) (f : Fields) → decodePaper s w ≡ (0, f) → Accepted s w f
 unfolding decodePaper decodeEnabled
 decode-accepted s w f =
@@ -79,17 +88,31 @@ decodes-when s w f v = (
 
 -- ---- its partner
 
--- what the code of partner answers after decode has accepted
-pub partner-is : (s : Settings) (w : ℕ) (f : Fields) → decodePaper s w ≡ (0, f) → partnerPaper s w ≡ partnerIn (f .family) w
+-- the partner of an accepted word
+partner-is : (s : Settings) (w : ℕ) (f : Fields) → decodePaper s w ≡ (0, f) → partnerPaper s w ≡ partnerIn (f .family) w
 unfolding partnerPaper
 partner-is s w f e =
     let a = decode-accepted s w f e in
     rw (e, partner-sign w f (a .says))
 
--- and after decode has refused
-pub partner-refused : (s : Settings) (w n : ℕ) → decodePaper s w ≡ (n, noFields) → 0 < n → partnerPaper s w ≡ (n, 0)
+partner-refused : (s : Settings) (w n : ℕ) → decodePaper s w ≡ (n, noFields) → 0 < n → partnerPaper s w ≡ (n, 0)
 unfolding partnerPaper
 partner-refused s w n e h = rw (e, ne-eqb n 0 (λ z. omega arith))
+
+-- what the code of partner answers: 1, or by the word's kind 3 or what the kind's family says
+pub partner-not-valid : (s : Settings) (w : ℕ) → validSettings s ≡ false → partnerPaper s w ≡ (1, 0)
+unfolding decodePaper
+partner-not-valid s w v = partner-refused s w 1 (rw v) (omega arith)
+
+module _ (s : Settings) (w : ℕ) (k : Kind) (v : validSettings s ≡ true) (e : describe w ≡ saysAs k w) where
+  pub partner-not-enabled : enablesSaid (s .features .0) (saysAs k w) ≡ false → partnerPaper s w ≡ (3, 0)
+  unfolding decodePaper
+  partner-not-enabled h = partner-refused s w 3 (rw v (kind-refused (s .features .0) w k e h)) (omega arith)
+
+  pub partner-by-kind : enablesSaid (s .features .0) (saysAs k w) ≡ true → partnerPaper s w ≡ partnerIn (familyAs k) w
+  unfolding decodePaper
+  partner-by-kind h =
+      partner-is s w (fieldsAs k w) (rw v (kind-enabled (s .features .0) w k e h)) ∙ ap (λ (family : Family). partnerIn family w) (family-as k w)
 
 -- the test for C passes for C alone
 pub not-c : (family : Family) → (family ≢ Saturating) ↔ (isC family ≡ false)

@@ -1,6 +1,7 @@
+pub mod Families
 pub mod Table
 pub mod Turned
 pub mod Partners
-pub mod Enabled
+pub mod ByKind
 pub mod Answers
 pub mod Ranges

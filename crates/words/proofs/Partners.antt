@@ -13,13 +13,12 @@ use Rattle.laws.proofs.Bits.{xor-twice}
 use Rattle.layouts.specs.Layout.{matches, flip, maskOf}
 use Rattle.layouts.proofs.Apart.{apartFrom, allApart}
 use Rattle.layouts.proofs.Flipped.{matches-kept}
-use Rattle.words.specs.Says.{Row, table, saysOf, saysFirst, describe}
+use Rattle.words.specs.Says.{As, Nothing, Row, table, saysOf, saysFirst, describe}
 use Rattle.words.specs.Partner.{flipFirst, partnerWord, turned}
 use Rattle.words.specs.Sign.{signOf}
 use Rattle.words.specs.declared.Family.{Family}
 use Rattle.words.specs.declared.Family.the-variants.{ByElement, Vector, Saturating, LongLong, Long}
 use Rattle.words.specs.declared.Fields.{Fields}
-use Rattle.words.specs.declared.Described.the-variants.{As, Nothing}
 use Rattle.words.proofs.Table.{layouts, table-apart, apart-from, found, never}
 use Rattle.words.proofs.Turned.{Turns, table-turns}
 

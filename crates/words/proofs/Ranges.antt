@@ -11,10 +11,9 @@ use Rattle.laws.proofs.Lists.{Each}
 use Rattle.laws.proofs.Tests.{by-cond, cond-holds}
 use Rattle.layouts.specs.Layout.{matches}
 use Rattle.words.specs.Rows.{rowC16, rowC32, rowD2, rowD4, rowE2, rowE4}
-use Rattle.words.specs.Says.{Row, table, entryA, entryB, entry, fieldsA16, fieldsA32, fieldsC, fieldsD, fieldsE, saysOf, saysFirst, describe}
+use Rattle.words.specs.Says.{As, Nothing, Row, table, entryA, entryB, entry, fieldsA16, fieldsA32, fieldsC, fieldsD, fieldsE, saysOf, saysFirst, describe}
 use Rattle.words.specs.Ranges.{Ranges}
 use Rattle.words.specs.declared.Fields.{Fields}
-use Rattle.words.specs.declared.Described.the-variants.{As, Nothing}
 use Rattle.words.proofs.Table.{found, never}
 
 InRange : Row → Type 0
@@ -52,11 +51,11 @@ in-b w o = record { lane = b-lane (w / 4194304 % 4) (omega arith) o; part = omeg
 
 in-c16 : InRange (entry rowC16 (fieldsC rowC16 16))
 unfolding InRange
-in-c16 w o = record { lane = inr (inl refl); part = omega arith; index = omega arith; destination = omega arith; first = omega arith; second = omega arith; of-family = refl }
+in-c16 w o = record { lane = inr (inl refl); part = omega arith; index = omega arith; destination = omega arith; first = omega arith; second = omega arith; of-family = (refl, inl refl) }
 
 in-c32 : InRange (entry rowC32 (fieldsC rowC32 32))
 unfolding InRange
-in-c32 w o = record { lane = inr (inr refl); part = omega arith; index = omega arith; destination = omega arith; first = omega arith; second = omega arith; of-family = refl }
+in-c32 w o = record { lane = inr (inr refl); part = omega arith; index = omega arith; destination = omega arith; first = omega arith; second = omega arith; of-family = (refl, inr refl) }
 
 in-d2 : InRange (entry rowD2 (fieldsD rowD2 2))
 unfolding InRange

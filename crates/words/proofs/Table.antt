@@ -9,9 +9,8 @@ use mathlib.Core.Bool.{true, false}
 use Rattle.laws.proofs.Tests.{both, failed, by-cond}
 use Rattle.layouts.specs.Layout.{Layout, size, matches}
 use Rattle.layouts.proofs.Apart.{apart, apartFrom, allApart, no-word-in-both}
-use Rattle.words.specs.Says.{Row, table, saysOf, saysFirst, describe}
+use Rattle.words.specs.Says.{As, Nothing, Row, table, saysOf, saysFirst, describe}
 use Rattle.words.specs.declared.Fields.{Fields}
-use Rattle.words.specs.declared.Described.the-variants.{As, Nothing}
 
 abbrev pub layouts : List Row → List Layout
 layouts [] = []

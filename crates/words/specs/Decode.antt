@@ -6,12 +6,10 @@ use Rattle.settings.specs.Sets.{hasFeatures, advSimd, sve2, sme, sme2, i16i64}
 use Rattle.settings.specs.Valid.{validSettings}
 use Rattle.settings.specs.Refused.{refusalNumber}
 use Rattle.settings.specs.declared.Settings.{Settings}
-use Rattle.words.specs.Says.{describe}
+use Rattle.words.specs.Says.{Described, As, Nothing, describe}
 use Rattle.words.specs.declared.Family.{Family}
 use Rattle.words.specs.declared.Family.the-variants.{ByElement, Vector, Saturating, LongLong, Long}
 use Rattle.words.specs.declared.Fields.{Fields}
-use Rattle.words.specs.declared.Described.{Described}
-use Rattle.words.specs.declared.Described.the-variants.{As, Nothing}
 use Rattle.words.specs.declared.Decoded.{Decoded}
 use Rattle.words.specs.declared.Decoded.the-variants.{Word, Refused}
 

@@ -1,6 +1,8 @@
+pub mod Families
 pub mod Rows
 pub mod Says
 pub mod Decode
 pub mod Partner
 pub mod Sign
 pub mod Ranges
+pub mod Kinds

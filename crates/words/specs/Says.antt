@@ -8,8 +8,11 @@ use Rattle.words.specs.Rows.{rowA, rowB, rowC16, rowC32, rowD2, rowD4, r
 use Rattle.words.specs.declared.Family.{Family}
 use Rattle.words.specs.declared.Family.the-variants.{ByElement, Vector, Saturating, LongLong, Long}
 use Rattle.words.specs.declared.Fields.{Fields}
-use Rattle.words.specs.declared.Described.{Described}
-use Rattle.words.specs.declared.Described.the-variants.{As, Nothing}
+
+-- what a word says, whatever the features: fields, or nothing where no row matches or the size is reserved
+pub data Described : Type 0 where
+  As : Fields → Described
+  Nothing : Described
 
 -- S=1 subtracts, U=1 is unsigned
 abbrev pub isOne : ℕ → Bool

@@ -1,9 +1,11 @@
 ghost use mathlib.Core.Path.{_≡_};
 ghost use Prim.Native.Nat.{_+_, _*_, _/_, _%_, _^_, _<_};
 ghost use Rattle.layouts.specs.Layout.{matches};
+ghost use Rattle.words.specs.Families.{familyNumber};
 ghost use Rattle.words.specs.Rows.{rowA, rowB, rowC16, rowC32, rowD2, rowD4, rowE2, rowE4};
-ghost use Rattle.words.specs.Says.{byElement, fieldsA16, fieldsA32, vector, saturating, fieldsC, intoZa, fieldsD, fieldsE, entryA, entryB, tableZa, saysOf, saysFirst, describe as describePaper};
-ghost use Rattle.words.specs.Decode.{enablesFamily, enables as enablesPaper, decodedSays, enabledOnly, decodeEnabled, decodePaper};
+ghost use Rattle.words.specs.Says.{byElement, fieldsA16, fieldsA32, vector, saturating, fieldsC, intoZa, fieldsD, fieldsE, As, entryA, entryB, tableZa, saysOf, saysFirst, describe as describePaper};
+ghost use Rattle.words.specs.Decode.{enablesFamily, enables as enablesPaper, decodedSays, decodePaper};
+ghost use Rattle.words.specs.Kinds.{fieldsAs, saysAs, familyAs, tableC, enablesSaid, answerTo};
 ghost use Rattle.words.specs.Partner.{partneredSays, PartnerPromise};
 ghost use Rattle.words.specs.Sign.{partnerIn};
 use layouts::*;
@@ -45,9 +47,19 @@ pub struct Fields {
     pub offset: u32,
 }
 
-// A word's fields, whatever the features.
-pub enum Described {
-    As(Fields),
+// Which fields a word has: A and C by their lane, D and E by their group. A kind is one byte, so that a word can be refused
+// before any field is read.
+pub enum Kind {
+    ByElement16,
+    ByElement32,
+    Vector,
+    Saturating16,
+    Saturating32,
+    LongLong2,
+    LongLong4,
+    Long2,
+    Long4,
+    // No layout matches, or the size is reserved.
     Nothing,
 }
 
@@ -59,6 +71,19 @@ pub enum Decoded {
 pub enum Partnered {
     Word(u32),
     Refused(Refusal),
+}
+
+// A family by its number.
+pub fn family_number(family: Family) -> u32
+    ensures { λ r. ⌜ r ≡ familyNumber family ⌝ }
+{
+    match family {
+        Family::ByElement => 1,
+        Family::Vector => 2,
+        Family::Saturating => 3,
+        Family::LongLong => 4,
+        Family::Long => 5,
+    }
 }
 
 // 0 Q U 01111 ss L M mmmm 0 S 1 0 H 0 nnnnn ddddd
@@ -162,7 +187,7 @@ fn by_element_fields(w: u32, lane: u32, index: u32, second: u32) -> Fields
     }
 }
 
-fn fields_a16(w: u32) -> Fields
+pub fn fields_a16(w: u32) -> Fields
     ensures { λ r. ⌜ r ≡ fieldsA16 w ⌝ }
 {
     by_element_fields(
@@ -173,7 +198,7 @@ fn fields_a16(w: u32) -> Fields
     )
 }
 
-fn fields_a32(w: u32) -> Fields
+pub fn fields_a32(w: u32) -> Fields
     ensures { λ r. ⌜ r ≡ fieldsA32 w ⌝ }
 {
     by_element_fields(
@@ -198,7 +223,7 @@ fn lane_b(size: u32) -> u32
     }
 }
 
-fn vector_fields(w: u32, lane: u32) -> Fields
+pub fn fields_b(w: u32, lane: u32) -> Fields
     ensures { λ r. ⌜ r ≡ vector w lane ⌝ }
 {
     Fields {
@@ -236,13 +261,13 @@ fn saturating_fields(w: u32, lane: u32, index: u32, second: u32) -> Fields
     }
 }
 
-fn fields_c16(w: u32) -> Fields
+pub fn fields_c16(w: u32) -> Fields
     ensures { λ r. ⌜ r ≡ fieldsC rowC16 16 w ⌝ }
 {
     saturating_fields(w, 16, w / BIT_19 % 4 * 2 + w / BIT_11 % 2, w / BIT_16 % 8)
 }
 
-fn fields_c32(w: u32) -> Fields
+pub fn fields_c32(w: u32) -> Fields
     ensures { λ r. ⌜ r ≡ fieldsC rowC32 32 w ⌝ }
 {
     saturating_fields(w, 32, w / BIT_20 % 2 * 2 + w / BIT_11 % 2, w / BIT_16 % 16)
@@ -276,7 +301,7 @@ fn za_fields(
     }
 }
 
-fn fields_d2(w: u32) -> Fields
+pub fn fields_d2(w: u32) -> Fields
     ensures { λ r. ⌜ r ≡ fieldsD rowD2 2 w ⌝ }
 {
     let lane = 8 + 8 * (w / BIT_22 % 2);
@@ -291,7 +316,7 @@ fn fields_d2(w: u32) -> Fields
     )
 }
 
-fn fields_d4(w: u32) -> Fields
+pub fn fields_d4(w: u32) -> Fields
     ensures { λ r. ⌜ r ≡ fieldsD rowD4 4 w ⌝ }
 {
     let lane = 8 + 8 * (w / BIT_22 % 2);
@@ -306,7 +331,7 @@ fn fields_d4(w: u32) -> Fields
     )
 }
 
-fn fields_e2(w: u32) -> Fields
+pub fn fields_e2(w: u32) -> Fields
     ensures { λ r. ⌜ r ≡ fieldsE rowE2 2 w ⌝ }
 {
     za_fields(
@@ -320,7 +345,7 @@ fn fields_e2(w: u32) -> Fields
     )
 }
 
-fn fields_e4(w: u32) -> Fields
+pub fn fields_e4(w: u32) -> Fields
     ensures { λ r. ⌜ r ≡ fieldsE rowE4 4 w ⌝ }
 {
     za_fields(
@@ -332,6 +357,117 @@ fn fields_e4(w: u32) -> Fields
         4,
         2 * (w % 4),
     )
+}
+
+// The kind of a word of row A. Sizes 00 and 11 are reserved.
+fn kind_a(w: u32) -> Kind
+    ensures { λ r. ⌜ saysOf entryA w ≡ saysAs r w ⌝ }
+{
+    let size = w / BIT_22 % 4;
+    if size == 0b01 {
+        return Kind::ByElement16;
+    }
+    if size == 0b10 {
+        return Kind::ByElement32;
+    }
+    Kind::Nothing
+}
+
+// The kind of a word of row B. Size 11 is reserved.
+fn kind_b(w: u32) -> Kind
+    ensures { λ r. ⌜ saysOf entryB w ≡ saysAs r w ⌝ }
+{
+    if w / BIT_22 % 4 == 0b11 {
+        return Kind::Nothing;
+    }
+    Kind::Vector
+}
+
+// The kind of a word by the rows of C.
+fn kind_c(w: u32) -> Kind
+    ensures { λ r. ⌜ saysFirst tableC w ≡ saysAs r w ⌝ }
+{
+    if is_c16(w) {
+        return Kind::Saturating16;
+    }
+    if is_c32(w) {
+        return Kind::Saturating32;
+    }
+    Kind::Nothing
+}
+
+// The kind of a word by the rows of D and E.
+fn kind_za(w: u32) -> Kind
+    ensures { λ r. ⌜ saysFirst tableZa w ≡ saysAs r w ⌝ }
+{
+    if is_d2(w) {
+        return Kind::LongLong2;
+    }
+    if is_d4(w) {
+        return Kind::LongLong4;
+    }
+    if is_e2(w) {
+        return Kind::Long2;
+    }
+    if is_e4(w) {
+        return Kind::Long4;
+    }
+    Kind::Nothing
+}
+
+// The kind of a word, whatever the features. The rows of C fix all of the top byte, and so do those of D and E: a word with
+// another top byte needs none of their tests.
+pub fn kind_of(w: u32) -> Kind
+    ensures { λ r. ⌜ describePaper w ≡ saysAs r w ⌝ }
+{
+    if is_a(w) {
+        return kind_a(w);
+    }
+    if is_b(w) {
+        return kind_b(w);
+    }
+    match w / BIT_24 {
+        0b01000100 => kind_c(w),
+        0b11000001 => kind_za(w),
+        _ => Kind::Nothing,
+    }
+}
+
+// The family of a kind: for `Nothing` that of a refusal's zeros.
+pub fn kind_family(kind: Kind) -> Family
+    ensures { λ r. ⌜ r ≡ familyAs kind ⌝ }
+{
+    match kind {
+        Kind::ByElement16 => Family::ByElement,
+        Kind::ByElement32 => Family::ByElement,
+        Kind::Vector => Family::Vector,
+        Kind::Saturating16 => Family::Saturating,
+        Kind::Saturating32 => Family::Saturating,
+        Kind::LongLong2 => Family::LongLong,
+        Kind::LongLong4 => Family::LongLong,
+        Kind::Long2 => Family::Long,
+        Kind::Long4 => Family::Long,
+        Kind::Nothing => Family::ByElement,
+    }
+}
+
+// The fields of a word of the kind, for callers that have refused `Nothing`: what is left for the last arm is E with four
+// registers.
+pub fn fields_of(kind: Kind, w: u32) -> Fields
+    requires { ⌜ describePaper w ≡ As (fieldsAs kind w) ⌝ }
+    ensures { λ r. ⌜ r ≡ fieldsAs kind w ⌝ }
+{
+    match kind {
+        Kind::ByElement16 => fields_a16(w),
+        Kind::ByElement32 => fields_a32(w),
+        Kind::Vector => fields_b(w, lane_b(w / BIT_22 % 4)),
+        Kind::Saturating16 => fields_c16(w),
+        Kind::Saturating32 => fields_c32(w),
+        Kind::LongLong2 => fields_d2(w),
+        Kind::LongLong4 => fields_d4(w),
+        Kind::Long2 => fields_e2(w),
+        _ => fields_e4(w),
+    }
 }
 
 // Whether the features enable a word of the family, whose source elements have `lane` bits.
@@ -357,107 +493,34 @@ pub fn enables(features: Features, f: Fields) -> bool
     enables_family(features, family, f.lane)
 }
 
-// A word of row A. Sizes 00 and 11 are reserved.
-fn decode_a(features: Features, w: u32) -> Decoded
-    ensures { λ r. ⌜ decodedSays r ≡ enabledOnly (features .0) (saysOf entryA w) ⌝ }
+// Whether the features enable a word of the kind. Only D's rule reads the lane, so that the number given for it is D's
+// lane for every kind.
+pub fn enables_kind(features: Features, kind: Kind, w: u32) -> bool
+    ensures { λ r. ⌜ r ≡ enablesSaid (features .0) (saysAs kind w) ⌝ }
 {
-    let size = w / BIT_22 % 4;
-    if size == 0b01 {
-        if enables_family(features, Family::ByElement, 16) {
-            return Decoded::Word(fields_a16(w));
-        }
-        return Decoded::Refused(Refusal::UnknownWord);
+    match kind {
+        Kind::Nothing => false,
+        _ => enables_family(features, kind_family(kind), 8 + 8 * (w / BIT_22 % 2)),
     }
-    if size == 0b10 {
-        if enables_family(features, Family::ByElement, 32) {
-            return Decoded::Word(fields_a32(w));
-        }
-        return Decoded::Refused(Refusal::UnknownWord);
-    }
-    Decoded::Refused(Refusal::UnknownWord)
 }
 
-// A word of row B. Size 11 is reserved.
-fn decode_b(features: Features, w: u32) -> Decoded
-    ensures { λ r. ⌜ decodedSays r ≡ enabledOnly (features .0) (saysOf entryB w) ⌝ }
+// The answer to an enabled word of the kind. Each answer is made where it is returned, since fields that pass from one
+// answer into another are copied, which costs more than finding them.
+fn decoded_as(kind: Kind, word: u32) -> Decoded
+    requires { ⌜ describePaper word ≡ saysAs kind word ⌝ }
+    ensures { λ r. ⌜ decodedSays r ≡ answerTo (saysAs kind word) ⌝ }
 {
-    let size = w / BIT_22 % 4;
-    if size == 0b11 {
-        return Decoded::Refused(Refusal::UnknownWord);
-    }
-    let lane = lane_b(size);
-    if enables_family(features, Family::Vector, lane) {
-        return Decoded::Word(vector_fields(w, lane));
-    }
-    Decoded::Refused(Refusal::UnknownWord)
-}
-
-// A word of the rows of D and E.
-fn decode_za(features: Features, w: u32) -> Decoded
-    ensures { λ r. ⌜ decodedSays r ≡ enabledOnly (features .0) (saysFirst tableZa w) ⌝ }
-{
-    let lane_d = 8 + 8 * (w / BIT_22 % 2);
-    if is_d2(w) {
-        if enables_family(features, Family::LongLong, lane_d) {
-            return Decoded::Word(fields_d2(w));
-        }
-        return Decoded::Refused(Refusal::UnknownWord);
-    }
-    if is_d4(w) {
-        if enables_family(features, Family::LongLong, lane_d) {
-            return Decoded::Word(fields_d4(w));
-        }
-        return Decoded::Refused(Refusal::UnknownWord);
-    }
-    if is_e2(w) {
-        if enables_family(features, Family::Long, 16) {
-            return Decoded::Word(fields_e2(w));
-        }
-        return Decoded::Refused(Refusal::UnknownWord);
-    }
-    if is_e4(w) {
-        if enables_family(features, Family::Long, 16) {
-            return Decoded::Word(fields_e4(w));
-        }
-        return Decoded::Refused(Refusal::UnknownWord);
-    }
-    Decoded::Refused(Refusal::UnknownWord)
-}
-
-// The fields of a word under features alone: for callers that have tested the settings. Each answer is made where it is
-// returned, since fields that pass from one answer into another are copied, which costs more than finding them.
-pub fn decode_enabled(features: Features, word: u32) -> Decoded
-    ensures { λ r. ⌜ decodedSays r ≡ decodeEnabled (features .0) word ⌝ }
-{
-    if is_a(word) {
-        return decode_a(features, word);
-    }
-    if is_b(word) {
-        return decode_b(features, word);
-    }
-    if is_c16(word) {
-        if enables_family(features, Family::Saturating, 16) {
-            return Decoded::Word(fields_c16(word));
-        }
-        return Decoded::Refused(Refusal::UnknownWord);
-    }
-    if is_c32(word) {
-        if enables_family(features, Family::Saturating, 32) {
-            return Decoded::Word(fields_c32(word));
-        }
-        return Decoded::Refused(Refusal::UnknownWord);
-    }
-    decode_za(features, word)
-}
-
-// The fields of a word, whatever the features: all five enable every word.
-pub fn describe(w: u32) -> Described
-    ensures { λ r. ⌜ r ≡ describePaper w ⌝ }
-{
-    let decoded = decode_enabled(Features(31), w);
-    match decoded {
-        Decoded::Word(f) => Described::As(f),
-        Decoded::Refused(_) => Described::Nothing,
+    match kind {
+        Kind::ByElement16 => Decoded::Word(fields_a16(word)),
+        Kind::ByElement32 => Decoded::Word(fields_a32(word)),
+        Kind::Vector => Decoded::Word(fields_b(word, lane_b(word / BIT_22 % 4))),
+        Kind::Saturating16 => Decoded::Word(fields_c16(word)),
+        Kind::Saturating32 => Decoded::Word(fields_c32(word)),
+        Kind::LongLong2 => Decoded::Word(fields_d2(word)),
+        Kind::LongLong4 => Decoded::Word(fields_d4(word)),
+        Kind::Long2 => Decoded::Word(fields_e2(word)),
+        Kind::Long4 => Decoded::Word(fields_e4(word)),
+        Kind::Nothing => Decoded::Refused(Refusal::UnknownWord),
     }
 }
 
@@ -465,11 +528,15 @@ pub fn describe(w: u32) -> Described
 pub fn decode(settings: Settings, word: u32) -> Decoded
     ensures { λ r. ⌜ decodedSays r ≡ decodePaper settings word ⌝ }
 {
-    if settings.valid() {
-        let features = settings.features;
-        return decode_enabled(features, word);
+    if !settings.valid() {
+        return Decoded::Refused(Refusal::BadSettings);
     }
-    Decoded::Refused(Refusal::BadSettings)
+    let features = settings.features;
+    let kind = kind_of(word);
+    if enables_kind(features, kind, word) {
+        return decoded_as(kind, word);
+    }
+    Decoded::Refused(Refusal::UnknownWord)
 }
 
 // The partner of a word of the family: S stands at one bit in all layouts of a family.
@@ -485,16 +552,17 @@ fn partner_in(family: Family, word: u32) -> Partnered
     }
 }
 
-// The word with S flipped. Refusals 1, 3, 6.
+// The word with S flipped. Refusals 1, 3, 6. It needs the family of the word, and none of its fields.
 pub fn partner(settings: Settings, word: u32) -> Partnered
     ensures { λ r. ⌜ PartnerPromise settings word r ⌝ }
 {
-    let decoded = decode(settings, word);
-    match decoded {
-        Decoded::Word(f) => {
-            let family = f.family;
-            partner_in(family, word)
-        }
-        Decoded::Refused(r) => Partnered::Refused(r),
+    if !settings.valid() {
+        return Partnered::Refused(Refusal::BadSettings);
     }
+    let features = settings.features;
+    let found = kind_of(word);
+    if enables_kind(features, found, word) {
+        return partner_in(kind_family(found), word);
+    }
+    Partnered::Refused(Refusal::UnknownWord)
 }

@@ -28,27 +28,27 @@ loop-holds : tie.Need-loop-holds Inv-loop μ-loop
 unfolding written
 loop-holds c = (omega arith, omega arith, refl, sym (toggled-same _), omega arith, refl)
 
-add-element-at : tie.Need-add-element-at Inv-loop μ-loop
-add-element-at c = omega (arith, eight (c .before))
+add-read8 : tie.Need-add-read8 Inv-loop μ-loop
+add-read8 c = omega (arith, eight (c .before))
 
-element-at-requires : tie.Need-element-at-requires Inv-loop μ-loop
-element-at-requires c κs = omega (arith, eight (c .before))
+read8-requires : tie.Need-read8-requires Inv-loop μ-loop
+read8-requires c κs = omega (arith, eight (c .before))
 
-element-at-requires-2 : tie.Need-element-at-requires-2 Inv-loop μ-loop
-element-at-requires-2 c κs = eight (c .before .before)
+read8-requires-2 : tie.Need-read8-requires-2 Inv-loop μ-loop
+read8-requires-2 c κs = eight (c .before .before)
 
-add-put-element : tie.Need-add-put-element Inv-loop μ-loop
-add-put-element c = omega (arith, eight (c .before .before .before .before))
+add-put8 : tie.Need-add-put8 Inv-loop μ-loop
+add-put8 c = omega (arith, eight (c .before .before .before .before))
 
-put-element-requires : tie.Need-put-element-requires Inv-loop μ-loop
-put-element-requires c κs = omega (arith, eight (c .before .before .before .before))
+put8-requires : tie.Need-put8-requires Inv-loop μ-loop
+put8-requires c κs = omega (arith, eight (c .before .before .before .before))
 
 -- what a turn adds
 few : (c : tie.After-slice-known2 Inv-loop μ-loop)
-    → ones (bitXor (c .before .before .before .before .before .element-at .result) (c .before .before .before .before .element-at2 .result)) ≤ 64
+    → ones (bitXor (c .before .before .before .before .before .read8 .result) (c .before .before .before .before .read82 .result)) ≤ 64
 few c =
     let d = c .before .before .before .before in
-    few-ones _ _ (d .before .element-at .ensures .1) (d .element-at2 .ensures .1)
+    few-ones _ _ (d .before .read8 .ensures .1) (d .read82 .ensures .1)
 
 add-t : tie.Need-add-t Inv-loop μ-loop
 add-t c = omega (arith, few c, eight (c .before .before .before .before .before .before .before))
@@ -68,11 +68,11 @@ loop-again c =
     let a = k .before .args in
     let T =
     turn (a .file .now) (a .new .now) (a .at) (k .before .pre .0) (k .before .pre .1 .0)
-    (l .i) (l .t) (d .before .element-at .result) (d .element-at2 .result) (l .file) _
+    (l .i) (l .t) (d .before .read8 .result) (d .read82 .result) (l .file) _
     (λ j. k .slice-known .given j .fits)
     (l .inv .1) (g .loop-test .taken) (l .inv .2) (l .inv .3)
-    (d .before .element-at .ensures .0) (d .element-at2 .ensures .0) (d .before .element-at .ensures .1) (d .element-at2 .ensures .1)
-    (c .before .before .put-element .ensures) in
+    (d .before .read8 .ensures .0) (d .read82 .ensures .0) (d .before .read8 .ensures .1) (d .read82 .ensures .1)
+    (c .before .before .put8 .ensures) in
     (omega (arith, eight g), omega arith, T .upto, T .bits, omega (arith, few c), T .long)
 
 same-length : tie.Need-same-length Inv-loop μ-loop
@@ -94,11 +94,11 @@ replace-spec =
     Inv-loop
     μ-loop
     loop-holds
-    add-element-at
-    element-at-requires
-    element-at-requires-2
-    add-put-element
-    put-element-requires
+    add-read8
+    read8-requires
+    read8-requires-2
+    add-put8
+    put8-requires
     add-t
     add-i
     loop-less

@@ -1,17 +1,19 @@
 -- `chunks::array_chunk` meets its contract, lane by lane. Assumes nothing.
-use mathlib.Core.Path.{refl}
-use mathlib.Core.Logic.{inl, inr}
 use native.Mathlib.Omega.{arith}
-use Rattle.chunks.proofs.Parts.{one-is, array-64, array-32, array-16}
+use Rattle.lanes.specs.Widths.{Widths}
+use Rattle.chunks.proofs.Parts.{one-is, array-widths, array-64, array-32, array-16}
 use Rattle.chunks.proofs.array_chunk.Statement.{statement}
 use Rattle.chunks.proofs.array_chunk.Tie as tie
+
+widths : (s : tie.Start) → Widths (s .args .lane) (s .args .wide)
+widths s = array-widths (s .args .lane) (s .args .wide) (s .pre .0)
 
 element-requires : tie.Need-element-requires
 element-requires c κs =
     let s = c .before .before in
     let e = array-64 (s .args .lane) (s .args .wide) (s .pre .0) (c .if1 .taken) in
     let p = rw (e, c .if1 .taken) at (s .pre .1) in
-    ((inr (inl refl), refl), (omega arith, (omega (arith, p .0), omega (arith, p .1))))
+    (rw (e, c .if1 .taken) at (widths s), (omega arith, (omega (arith, p .0), omega (arith, p .1))))
 
 returns : tie.Need-returns
 returns c =
@@ -24,7 +26,7 @@ two-requires : tie.Need-two-requires
 two-requires c κs =
     let s = c .before .before .before in
     let e = array-32 (s .args .lane) (s .args .wide) (s .pre .0) (c .before .if1 .left) in
-    ((inl refl, refl), rw (e, c .if2 .taken) at (s .pre .1))
+    (rw (e, c .if2 .taken) at (widths s), rw (e, c .if2 .taken) at (s .pre .1))
 
 returns-2 : tie.Need-returns-2
 returns-2 c =
@@ -37,7 +39,7 @@ two-requires-2 c κs =
     let s = c .before .before .before in
     let e = array-32 (s .args .lane) (s .args .wide) (s .pre .0) (c .before .if1 .left) in
     let f = array-16 (s .args .lane) (s .args .wide) (s .pre .0) (c .if2 .left) in
-    ((inr (inl refl), refl), rw (e, f) at (s .pre .1))
+    (rw (e, f) at (widths s), rw (e, f) at (s .pre .1))
 
 returns-3 : tie.Need-returns-3
 returns-3 c =

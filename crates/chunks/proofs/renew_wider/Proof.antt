@@ -4,14 +4,14 @@ use Prim.Native.Nat.{_*_, _/_}
 use native.Mathlib.Omega.{arith}
 use lib.ListN.{length}
 use Rattle.bits.proofs.Put.{few-ones}
-use Rattle.chunks.proofs.Renewed.{both-turns, even-half, HalfPlaces, half-places}
+use Rattle.chunks.proofs.Renewed.{both-turns, even-v, VPlaces, v-places}
 use borrow.Author.Needs.{needs}
 use Rattle.chunks.proofs.renew_wider.Statement.{statement}
 use Rattle.chunks.proofs.renew_wider.Tie as tie
 
 -- where both chunks have their lanes
-places : (s : tie.Start) → HalfPlaces (s .args .lane) (length (s .args .z .now)) (s .args .x) (s .args .y) (s .args .by)
-places s = half-places (s .args .lane) (inr (s .pre .0)) _ (s .args .x) (s .args .y) (s .args .by) (s .pre .1 .0 .1) (s .pre .1 .1)
+places : (s : tie.Start) → VPlaces (s .args .lane) (length (s .args .z .now)) (s .args .x) (s .args .y) (s .args .by)
+places s = v-places (s .args .lane) (inr (s .pre .0)) _ (s .args .x) (s .args .y) (s .args .by) (s .pre .1 .0 .1) (s .pre .1 .1)
 
 mul-dy : tie.Need-mul-dy
 mul-dy c = omega (arith, places (c .before) .step)
@@ -25,22 +25,22 @@ add-read8 c = search needs
 read8-requires-2 : tie.Need-read8-requires-2
 read8-requires-2 c κs = search needs
 
-half-chunk-requires : tie.Need-half-chunk-requires
-half-chunk-requires c κs =
+v-chunk-requires : tie.Need-v-chunk-requires
+v-chunk-requires c κs =
     let s = c .before .before .before .before .before .before in
     (s .pre .0, (places s .first, places s .second))
 
-add-half-chunk : tie.Need-add-half-chunk
-add-half-chunk c = search needs
+add-v-chunk : tie.Need-add-v-chunk
+add-v-chunk c = search needs
 
-mul-half-chunk : tie.Need-mul-half-chunk
-mul-half-chunk c = omega (arith, places (c .before .before .before .before .before .before .before .before) .second-high)
+mul-v-chunk : tie.Need-mul-v-chunk
+mul-v-chunk c = omega (arith, places (c .before .before .before .before .before .before .before .before) .second-high)
 
-add-half-chunk-2 : tie.Need-add-half-chunk-2
-add-half-chunk-2 c = omega (arith, places (c .before .before .before .before .before .before .before .before) .second-high)
+add-v-chunk-2 : tie.Need-add-v-chunk-2
+add-v-chunk-2 c = omega (arith, places (c .before .before .before .before .before .before .before .before) .second-high)
 
-half-chunk-requires-2 : tie.Need-half-chunk-requires-2
-half-chunk-requires-2 c κs =
+v-chunk-requires-2 : tie.Need-v-chunk-requires-2
+v-chunk-requires-2 c κs =
     let s = c .before .before .before .before .before .before .before .before in
     (s .pre .0, (places s .first-high, places s .second-high))
 
@@ -57,7 +57,7 @@ add-result : tie.Need-add-result
 add-result c =
     let h = c .before .before .before .before .before .before .before .before in
     let r = h .before .before .before .before in
-    omega (arith, few-ones _ (h .before .before .half-chunk .result) (r .before .before .read8 .ensures .1) (omega arith), few-ones _ (h .half-chunk2 .result) (r .read82 .ensures .1) (omega arith))
+    omega (arith, few-ones _ (h .before .before .v-chunk .result) (r .before .before .read8 .ensures .1) (omega arith), few-ones _ (h .v-chunk2 .result) (r .read82 .ensures .1) (omega arith))
 
 same-length : tie.Need-same-length
 same-length c = search needs
@@ -72,10 +72,10 @@ returns c =
     let k = q .before .before in
     let s = k .before in
     let a = s .args in
-    both-turns (a .lane) (2 * a .lane) (2 * a .lane / 8) (64 / (2 * a .lane)) (even-half (a .lane) (inr (s .pre .0))) (a .unsigned) (a .subtract) (a .z .now) (a .at)
+    both-turns (a .lane) (2 * a .lane) (2 * a .lane / 8) (64 / (2 * a .lane)) (even-v (a .lane) (inr (s .pre .0))) (a .unsigned) (a .subtract) (a .z .now) (a .at)
     (a .x) (a .lane / 8) (a .y) (a .by * (a .lane / 8)) (λ j. k .slice-known .given j .fits) (s .pre .1 .0 .0)
-    (q .read8 .result) (g .half-chunk .result) (r .read82 .result) (h .half-chunk2 .result) _ _ _ _ (places s .place) (places s .place-second)
-    (q .read8 .ensures .0) (r .read82 .ensures .0) (g .half-chunk .ensures) (h .half-chunk2 .ensures)
+    (q .read8 .result) (g .v-chunk .result) (r .read82 .result) (h .v-chunk2 .result) _ _ _ _ (places s .place) (places s .place-second)
+    (q .read8 .ensures .0) (r .read82 .ensures .0) (g .v-chunk .ensures) (h .v-chunk2 .ensures)
     (q .read8 .ensures .1) (omega arith) (r .read82 .ensures .1) (omega arith)
     (p .put8 .ensures) (c .before .before .put82 .ensures)
 
@@ -87,11 +87,11 @@ renew-wider-spec =
     read8-requires
     add-read8
     read8-requires-2
-    half-chunk-requires
-    add-half-chunk
-    mul-half-chunk
-    add-half-chunk-2
-    half-chunk-requires-2
+    v-chunk-requires
+    add-v-chunk
+    mul-v-chunk
+    add-v-chunk-2
+    v-chunk-requires-2
     put8-requires
     add-put8
     put8-requires-2

@@ -1,54 +1,44 @@
--- `lanes::accumulate` meets its contract, size by size. Assumes nothing.
+-- `lanes::accumulate` meets its contract, width by width. Assumes nothing.
+use mathlib.Core.Path.{_≡_}
+use Prim.Native.Nat.{_^_, _<_}
+use native.Mathlib.Nat.{mod-eq-of-lt}
 use native.Mathlib.Omega.{arith}
+use Rattle.lanes.proofs.Widths.{last-width}
 use borrow.Author.Needs.{needs}
 use Rattle.lanes.proofs.accumulate.Statement.{statement}
 use Rattle.lanes.proofs.accumulate.Tie as tie
 
-enum-told : tie.Need-enum-told
-enum-told c = search needs
-
-enum-told-2 : tie.Need-enum-told-2
-enum-told-2 c = search needs
-
 accumulate-16-requires : tie.Need-accumulate-16-requires
-accumulate-16-requires c κs = rw (c .enum-told2 .given .1) at (c .before .before .pre .1)
-
-enum-told-3 : tie.Need-enum-told-3
-enum-told-3 c = search needs
+accumulate-16-requires c κs = (rw (c .match .keys1) at (c .before .pre .1), omega arith)
 
 accumulate-32-requires : tie.Need-accumulate-32-requires
-accumulate-32-requires c κs = rw (c .enum-told3 .given .1) at (c .before .before .pre .1)
-
-enum-told-4 : tie.Need-enum-told-4
-enum-told-4 c = search needs
+accumulate-32-requires c κs = (rw (c .match .keys2) at (c .before .pre .1), omega arith)
 
 accumulate-64-requires : tie.Need-accumulate-64-requires
 accumulate-64-requires c κs = search needs
 
 returns : tie.Need-returns
-returns c = absurd (omega (arith, rw (c .enum-told .given .1) at (c .before .before .pre .0)))
+returns c = rw (c .before .match .keys1) (c .accumulate-16 .ensures)
 
 returns-2 : tie.Need-returns-2
-returns-2 c = rw (c .before .enum-told2 .given .1) (c .accumulate-16 .ensures)
+returns-2 c = rw (c .before .match .keys2) (c .accumulate-32 .ensures)
 
 returns-3 : tie.Need-returns-3
-returns-3 c = rw (c .before .enum-told3 .given .1) (c .accumulate-32 .ensures)
-
-returns-4 : tie.Need-returns-4
-returns-4 c = rw (c .before .enum-told4 .given .1) (c .accumulate-64 .ensures)
+returns-3 c =
+    let m = c .before in
+    let s = m .before in
+    let r = m .match .rest in
+    let e = last-width (s .args .wide) (s .pre .0 .0) (λ (e : s .args .wide ≡ 8). omega (arith, s .pre .0 .1)) (r .0 .1) (r .1) in
+    let whole : s .args .mag < 2 ^ 64 = omega arith in
+    rw (e, mod-eq-of-lt whole) (c .accumulate-64 .ensures)
 
 pub accumulate-spec : {M : Type 1} → statement M
 accumulate-spec =
     tie.close
     (tie.spec
-    enum-told
-    enum-told-2
     accumulate-16-requires
-    enum-told-3
     accumulate-32-requires
-    enum-told-4
     accumulate-64-requires
     returns
     returns-2
-    returns-3
-    returns-4)
+    returns-3)

@@ -18,8 +18,8 @@ returns : tie.Need-returns
 returns c =
     let l = c .before in
     let a = l .before .args in (
-      ap (value (a .neg)) (c .sum-to .ensures ∙ ap (min _) (l .limit-of .ensures)) ∙ sym (clamp-value (a .half) (l .before .pre) (a .neg) (a .a + a .b)),
-      omega (arith, limit-le (a .half) (a .neg), l .limit-of .ensures, c .sum-to .ensures),
+      ap (value (a .neg)) (c .sum-to .ensures ∙ ap (min _) (l .limit-of .ensures)) ∙ sym (clamp-value (a .top) (l .before .pre) (a .neg) (a .a + a .b)),
+      omega (arith, limit-le (a .top) (a .neg), l .limit-of .ensures, c .sum-to .ensures),
     )
 
 pub clamp-sum-spec : {M : Type 1} → statement M

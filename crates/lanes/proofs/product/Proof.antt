@@ -51,7 +51,7 @@ returns c =
     let h = a .before in
     let i = h .before in
     product-is (i .args .lane) 64 (i .args .unsigned) (i .args .x) (i .args .y) _ _ _ _ _
-    (lane-range (i .args .lane) (i .pre .0) .0)
+    (omega (arith, lane-range (i .args .lane) (i .pre .0) .0))
     (i .pre .1 .0)
     (i .pre .1 .1)
     (h .raise-of .ensures .0)

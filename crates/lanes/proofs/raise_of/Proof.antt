@@ -1,4 +1,5 @@
 -- `lanes::raise_of` meets its contract. Assumes nothing.
+use mathlib.Core.Logic.{inl}
 use native.Mathlib.Omega.{arith}
 use Rattle.lanes.proofs.Widths.{top-le}
 use borrow.Author.Needs.{needs}
@@ -9,7 +10,7 @@ returns : tie.Need-returns
 returns c = search needs
 
 top-requires : tie.Need-top-requires
-top-requires c κs = search needs
+top-requires c κs = inl (c .before .pre)
 
 returns-2 : tie.Need-returns-2
 returns-2 c =

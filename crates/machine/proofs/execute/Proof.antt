@@ -2,7 +2,7 @@
 use mathlib.Core.Path.{sym, _∙_}
 use borrow.Author.Needs.{needs}
 use Rattle.laws.proofs.Tests.{refuted, upheld}
-use Rattle.machine.proofs.Executing.{not-valid, not-long, is-ready, is-executed}
+use Rattle.machine.proofs.Executing.{not-valid, not-long, is-ready}
 use Rattle.machine.proofs.execute.Statement.{statement}
 use Rattle.machine.proofs.execute.Tie as tie
 
@@ -40,14 +40,7 @@ same-length-2 : tie.Need-same-length-2
 same-length-2 c = search needs
 
 returns-3 : tie.Need-returns-3
-returns-3 c =
-    let e = c .before .before .before .before in
-    let i = e .before .before .before in
-    let l = i .before in
-    let v = l .before .before in
-    let s = v .before .before .before in
-    e .execute-word .ensures
-    ∙ is-executed (s .args .settings) (s .args .z .now) (s .args .za .now) (s .args .word) (sym (v .valid .ensures) ∙ upheld _ (l .before .if1 .left)) (sym (l .right-lengths .ensures) ∙ upheld _ (i .if2 .left))
+returns-3 c = c .before .before .before .before .execute-word .ensures
 
 pub execute-spec : {M : Type 1} → statement M
 execute-spec =

@@ -1,30 +1,34 @@
 -- `machine::execute_word` meets its contract. Assumes nothing.
 use Prim.Native.Nat.{ℕ}
 use native.Mathlib.Omega.{arith}
-use mathlib.Core.Path.{sym, ap, _∙_}
+use mathlib.Core.Path.{_≡_, sym, ap, _∙_}
 use borrow.Author.Needs.{needs}
-use Rattle.settings.proofs.Refusals.{refusal-not-0}
-use Rattle.words.specs.Decode.{decodedSays}
+use Rattle.words.specs.Kinds.{saysAs, enablesSaid}
 use Rattle.words.specs.declared.Fields.{Fields}
-use Rattle.machine.proofs.Executing.{word-ranges, not-decoded, is-decoded}
+use Rattle.words.proofs.ByKind.{kind-refused, kind-enabled, kind-says}
+use Rattle.machine.proofs.Executing.{not-decoded, is-decoded}
 use Rattle.machine.proofs.execute_word.Statement.{statement}
 use Rattle.machine.proofs.execute_word.Tie as tie
 
-decode-enabled-requires : tie.Need-decode-enabled-requires
-decode-enabled-requires c κs = search needs
+abbrev entry : tie.After-kind-of → tie.Start
+entry c = c .before .before .before .before
 
-enum-known-fields : tie.Need-enum-known-fields
-enum-known-fields c = search needs
+-- whether the features enable the word, as the code found
+enabled : (c : tie.After-enables-kind)
+    → enablesSaid (entry (c .before) .args .settings .features .0) (saysAs (c .before .kind-of .result) (entry (c .before) .args .word)) ≡ c .enables-kind .result
+enabled c = sym (c .enables-kind .ensures)
 
-execute-fields-requires : tie.Need-execute-fields-requires
-execute-fields-requires c κs =
-    let m = c .before .before .before in
-    let d = m .before .before in
-    let s = d .before .before .before .before in
-    (s .pre, word-ranges (s .args .settings) (s .args .word) _ (s .pre .valid) (sym (d .decode-enabled .ensures) ∙ ap decodedSays (m .fields .given .1)))
+kind-of-requires : tie.Need-kind-of-requires
+kind-of-requires c κs = search needs
 
-enum-known-refusal : tie.Need-enum-known-refusal
-enum-known-refusal c = search needs
+enables-kind-requires : tie.Need-enables-kind-requires
+enables-kind-requires c κs = search needs
+
+execute-kind-requires : tie.Need-execute-kind-requires
+execute-kind-requires c κs =
+    let i = c .before .before in
+    let k = i .before .before in
+    (entry k .pre, kind-says _ _ (k .kind-of .result) (k .kind-of .ensures) (enabled (i .before) ∙ i .if1 .taken))
 
 same-length : tie.Need-same-length
 same-length c = search needs
@@ -34,29 +38,29 @@ same-length-2 c = search needs
 
 returns : tie.Need-returns
 returns c =
-    let e = c .before .before .before .before in
-    let m = e .before .before .before .before in
-    let d = m .before .before in
-    let s = d .before .before .before .before in
-    e .execute-fields .ensures ∙ is-decoded (s .args .settings) (s .args .z .now) (s .args .za .now) (s .args .word) _ (sym (d .decode-enabled .ensures) ∙ ap decodedSays (m .fields .given .1))
+    let x = c .before .before .before .before in
+    let i = x .before .before .before in
+    let k = i .before .before in
+    let s = entry k in
+    x .execute-kind .ensures
+    ∙ is-decoded (s .args .settings) (s .args .z .now) (s .args .za .now) (s .args .word) _ (s .pre)
+    (kind-enabled _ _ (k .kind-of .result) (k .kind-of .ensures) (enabled (i .before) ∙ i .if1 .taken))
 
 returns-2 : tie.Need-returns-2
 returns-2 c =
-    let m = c .before in
-    let d = m .before .before in
-    let s = d .before .before .before .before in
-    not-decoded (s .args .settings) (s .args .z .now) (s .args .za .now) (s .args .word) _
-    (ap (λ (p : ℕ × Fields). p .0) (sym (d .decode-enabled .ensures) ∙ ap decodedSays (m .refusal .given .1)))
-    (λ e. let h = refusal-not-0 (m .refusal .given .0 .0) in omega arith)
+    let k = c .before .before in
+    let s = entry k in
+    not-decoded (s .args .settings) (s .args .z .now) (s .args .za .now) (s .args .word) 3 (s .pre)
+    (ap (λ (p : ℕ × Fields). p .0) (kind-refused _ _ (k .kind-of .result) (k .kind-of .ensures) (enabled (c .before) ∙ c .if1 .left)))
+    (λ e. omega arith)
 
 pub execute-word-spec : {M : Type 1} → statement M
 execute-word-spec =
     tie.close
     (tie.spec
-    decode-enabled-requires
-    enum-known-fields
-    execute-fields-requires
-    enum-known-refusal
+    kind-of-requires
+    enables-kind-requires
+    execute-kind-requires
     same-length
     same-length-2
     returns

@@ -10,11 +10,11 @@ array-bytes-requires c κs = search needs
 cast-w : tie.Need-cast-w
 cast-w c = search needs
 
-cast-over : tie.Need-cast-over
-cast-over c = search needs
+cast-quotient : tie.Need-cast-quotient
+cast-quotient c = search needs
 
-over-requires : tie.Need-over-requires
-over-requires c κs = let s = c .before .before .before .before in group-is (s .args .settings) (s .pre .0)
+quotient-requires : tie.Need-quotient-requires
+quotient-requires c κs = let s = c .before .before .before .before in group-is (s .args .settings) (s .pre .0)
 
 select-register-requires : tie.Need-select-register-requires
 select-register-requires c κs =
@@ -36,10 +36,10 @@ rem-selected c =
     let o = c .before .before in
     let b = o .before .before in
     let s = b .before .before .before in
-    stride-pos (s .args .settings) (s .pre .0) (b .array-bytes .result) (o .over .result) (b .array-bytes .ensures) (o .over .ensures)
+    stride-pos (s .args .settings) (s .pre .0) (b .array-bytes .result) (o .quotient .result) (b .array-bytes .ensures) (o .quotient .ensures)
 
-past-requires : tie.Need-past-requires
-past-requires c κs =
+remainder-requires : tie.Need-remainder-requires
+remainder-requires c κs =
     let s = c .before .before .before .before .before .before .before in
     vectors-are (s .args .settings) (s .pre .0) (s .args .k) (s .pre .1)
 
@@ -49,7 +49,7 @@ sub-first c =
     let o = n .before in
     let b = o .before .before in
     let s = b .before .before .before in
-    first-fits (s .args .settings) (s .pre .0) (b .array-bytes .result) (o .over .result) (b .array-bytes .ensures) (o .over .ensures) (n .select-register .result) (s .args .k) (c .past .result) (n .select-register .ensures) (s .pre .1) (c .past .ensures)
+    first-fits (s .args .settings) (s .pre .0) (b .array-bytes .result) (o .quotient .result) (b .array-bytes .ensures) (o .quotient .ensures) (n .select-register .result) (s .args .k) (c .remainder .result) (n .select-register .ensures) (s .pre .1) (c .remainder .ensures)
 
 step-vectors-requires : tie.Need-step-vectors-requires
 step-vectors-requires c κs =
@@ -58,7 +58,7 @@ step-vectors-requires c κs =
     let o = n .before in
     let b = o .before .before in
     let s = b .before .before .before in
-    let r = ready (s .args .settings) (s .pre .0) (b .array-bytes .result) (o .over .result) (b .array-bytes .ensures) (o .over .ensures) (n .select-register .result) (s .args .k) (d .past .result) (n .select-register .ensures) (s .pre .1) (d .past .ensures) in
+    let r = ready (s .args .settings) (s .pre .0) (b .array-bytes .result) (o .quotient .result) (b .array-bytes .ensures) (o .quotient .ensures) (n .select-register .result) (s .args .k) (d .remainder .result) (n .select-register .ensures) (s .pre .1) (d .remainder .ensures) in
     (r .0, (r .1, r .2))
 
 same-length : tie.Need-same-length
@@ -72,7 +72,7 @@ returns c =
     let o = n .before in
     let b = o .before .before in
     let s = b .before .before .before in
-    (after (s .args .settings) (s .pre .0) (b .array-bytes .result) (o .over .result) (b .array-bytes .ensures) (o .over .ensures) (n .select-register .result) (s .args .k) (d .past .result) (n .select-register .ensures) (s .pre .1) (d .past .ensures) _ (v .step-vectors .ensures .0), v .step-vectors .ensures .1)
+    (after (s .args .settings) (s .pre .0) (b .array-bytes .result) (o .quotient .result) (b .array-bytes .ensures) (o .quotient .ensures) (n .select-register .result) (s .args .k) (d .remainder .result) (n .select-register .ensures) (s .pre .1) (d .remainder .ensures) _ (v .step-vectors .ensures .0), v .step-vectors .ensures .1)
 
 pub step-array-spec : {M : Type 1} → statement M
 step-array-spec =
@@ -80,14 +80,14 @@ step-array-spec =
     (tie.spec
     array-bytes-requires
     cast-w
-    cast-over
-    over-requires
+    cast-quotient
+    quotient-requires
     select-register-requires
     cast-number
     cast-selected
     add-selected
     rem-selected
-    past-requires
+    remainder-requires
     sub-first
     step-vectors-requires
     same-length

@@ -30,8 +30,8 @@ into-za c =
 enum-told : tie.Need-enum-told
 enum-told c = search needs
 
-step-half-requires : tie.Need-step-half-requires
-step-half-requires c κs =
+step-v-requires : tie.Need-step-v-requires
+step-v-requires c κs =
     let t = c .before in
     let s = t .before .before .before .before in
     (sources-of (s .args .settings) (s .args .fields) (s .args .z .now) (s .args .za .now) (s .pre .0) (s .pre .1 .0) (s .args .w) (s .pre .1 .1), inl (t .enum-told .given .1))
@@ -39,8 +39,8 @@ step-half-requires c κs =
 enum-told-2 : tie.Need-enum-told-2
 enum-told-2 c = search needs
 
-step-half-requires-2 : tie.Need-step-half-requires-2
-step-half-requires-2 c κs =
+step-v-requires-2 : tie.Need-step-v-requires-2
+step-v-requires-2 c κs =
     let t = c .before in
     let s = t .before .before .before .before in
     (sources-of (s .args .settings) (s .args .fields) (s .args .z .now) (s .args .za .now) (s .pre .0) (s .pre .1 .0) (s .args .w) (s .pre .1 .1), inr (t .enum-told2 .given .1))
@@ -72,7 +72,7 @@ returns c =
     let r = c .before .before in
     let t = r .before .before in
     let s = t .before .before .before .before in
-    z-done (s .args .settings) (s .args .fields) (s .args .z .now) (s .args .za .now) (s .pre .0) (s .pre .1 .0) (s .args .w) (s .pre .1 .1) (inl (t .enum-told .given .1)) _ _ (r .step-half .ensures)
+    z-done (s .args .settings) (s .args .fields) (s .args .z .now) (s .args .za .now) (s .pre .0) (s .pre .1 .0) (s .args .w) (s .pre .1 .1) (inl (t .enum-told .given .1)) _ _ (r .step-v .ensures)
 
 same-length-2 : tie.Need-same-length-2
 same-length-2 c = search needs
@@ -82,7 +82,7 @@ returns-2 c =
     let r = c .before .before in
     let t = r .before .before in
     let s = t .before .before .before .before in
-    z-done (s .args .settings) (s .args .fields) (s .args .z .now) (s .args .za .now) (s .pre .0) (s .pre .1 .0) (s .args .w) (s .pre .1 .1) (inr (inl (t .enum-told2 .given .1))) _ _ (r .step-half2 .ensures)
+    z-done (s .args .settings) (s .args .fields) (s .args .z .now) (s .args .za .now) (s .pre .0) (s .pre .1 .0) (s .args .w) (s .pre .1 .1) (inr (inl (t .enum-told2 .given .1))) _ _ (r .step-v2 .ensures)
 
 same-length-3 : tie.Need-same-length-3
 same-length-3 c = search needs
@@ -112,9 +112,9 @@ step-files-spec =
     tie.close
     (tie.spec
     enum-told
-    step-half-requires
+    step-v-requires
     enum-told-2
-    step-half-requires-2
+    step-v-requires-2
     enum-told-3
     step-saturating-requires
     per-source-requires

@@ -3,29 +3,26 @@ use mathlib.Core.Path.{sym}
 use native.Mathlib.Omega.{arith}
 use lib.Seq.{length-take-le}
 use borrow.Author.Needs.{needs}
-use Rattle.machine.proofs.Renewal.{register-small, source-lt, saturates, step-places, step-room, step-renewal}
+use Rattle.machine.proofs.Renewal.{register-small, source-lt, step-places, step-room, step-renewal}
 use Rattle.machine.proofs.step_saturating.Statement.{statement}
 use Rattle.machine.proofs.step_saturating.Tie as tie
 
--- from where the recipe is known back to the function's entry
-abbrev S : tie.After-recipe-of → tie.Start
-S r = r .before .before .before
+-- from the built register back to the function's entry
+abbrev S : tie.After-build → tie.Start
+S b = b .before .before .before .before .before .before .before .before
 
-array-borrow-prefix-scratch : tie.Need-array-borrow-prefix-scratch
-array-borrow-prefix-scratch c = search needs
+array-borrow-prefix-room : tie.Need-array-borrow-prefix-room
+array-borrow-prefix-room c = search needs
 
 slice-aggregate-out : tie.Need-slice-aggregate-out
 slice-aggregate-out c = sym (length-take-le _ _ (c .before .before .pre .1 .1))
-
-recipe-of-requires : tie.Need-recipe-of-requires
-recipe-of-requires c κs = search needs
 
 cast-at : tie.Need-cast-at
 cast-at c = search needs
 
 mul-at : tie.Need-mul-at
 mul-at c =
-    let s = S (c .before) in
+    let s = c .before .before .before in
     let p = s .pre .0 in
     omega (arith, register-small (p .width) (s .args .fields .destination) (p .ranges .destination))
 
@@ -34,7 +31,7 @@ cast-n c = search needs
 
 mul-n : tie.Need-mul-n
 mul-n c =
-    let s = S (c .before .before) in
+    let s = c .before .before .before .before in
     let p = s .pre .0 in
     omega (arith, register-small (p .width) (s .args .fields .first) (source-lt (s .args .fields) (p .ranges) .0))
 
@@ -43,23 +40,20 @@ cast-m c = search needs
 
 mul-m : tie.Need-mul-m
 mul-m c =
-    let s = S (c .before .before .before) in
+    let s = c .before .before .before .before .before in
     let p = s .pre .0 in
     omega (arith, register-small (p .width) (s .args .fields .second) (source-lt (s .args .fields) (p .ranges) .1))
 
 build-requires : tie.Need-build-requires
 build-requires c κs =
-    let r = c .before .before .before .before .before in
-    let p = S r .pre .0 in
-    let long = length-take-le _ _ (S r .pre .1 .1) in
-    (step-places p (S r .pre .1 .0) (r .recipe-of .ensures) _ long, saturates p (S r .pre .1 .0) (r .recipe-of .ensures) _ long)
+    let s = c .before .before .before .before .before .before .before in
+    step-places (s .pre .0) (s .pre .1 .0) _ (length-take-le _ _ (s .pre .1 .1))
 
 replace-requires : tie.Need-replace-requires
 replace-requires c κs =
     let b = c .before .before .before .before in
-    let r = b .before .before .before .before .before .before in
-    let p = S r .pre .0 in
-    let q = step-room p (S r .pre .1 .0) (r .recipe-of .ensures) _ (length-take-le _ _ (S r .pre .1 .1)) (b .build .last .1 .1 .1 .1 .1 .1 .0) (b .build .kept .1 .1 .1 .1 .1 .1 .0) in
+    let s = S b in
+    let q = step-room (s .pre .0) (s .pre .1 .0) _ (length-take-le _ _ (s .pre .1 .1)) (b .build .last .1 .1 .1 .1 .1 .0) (b .build .kept .1 .1 .1 .1 .1 .0) in
     (q .0, (q .1, q .2))
 
 same-length : tie.Need-same-length
@@ -69,17 +63,15 @@ returns : tie.Need-returns
 returns c =
     let v = c .before .before .before in
     let b = v .before .before .before .before .before in
-    let r = b .before .before .before .before .before .before in
-    let p = S r .pre .0 in
-    step-renewal p (S r .pre .1 .0) (r .recipe-of .ensures) _ (length-take-le _ _ (S r .pre .1 .1)) _ (b .build .kept .1 .1 .1 .1 .1 .1 .0) _ _ (b .build .ensures) (v .replace .ensures)
+    let s = S b in
+    step-renewal (s .pre .0) (s .pre .1 .0) _ (length-take-le _ _ (s .pre .1 .1)) _ (b .build .kept .1 .1 .1 .1 .1 .0) _ _ (b .build .ensures) (v .replace .ensures)
 
 pub step-saturating-spec : {M : Type 1} → statement M
 step-saturating-spec =
     tie.close
     (tie.spec
-    array-borrow-prefix-scratch
+    array-borrow-prefix-room
     slice-aggregate-out
-    recipe-of-requires
     cast-at
     mul-at
     cast-n

@@ -25,15 +25,15 @@ abbrev S : tie.In-loop Inv-loop μ-loop → tie.Start Inv-loop μ-loop
 S c = c .before .before .before .before .before
 
 -- the vector of this turn
-here : (c : tie.After-past Inv-loop μ-loop)
+here : (c : tie.After-remainder Inv-loop μ-loop)
     → let s = S (c .before .before) in
-    let r = c .before .over .result in
-    let i = c .past .result in
+    let r = c .before .quotient .result in
+    let i = c .remainder .result in
     (s .args .first + r * s .args .stride + i < s .args .w) × (r < s .args .fields .group) × (i < s .args .k)
 here c =
     let t = c .before .before in
     let s = S t in
-    row-lt (s .pre .0) (s .pre .1 .0) (t .before .loop .q) _ _ (t .loop-test .taken) (c .before .over .ensures) (c .past .ensures)
+    row-lt (s .pre .0) (s .pre .1 .0) (t .before .loop .q) _ _ (t .loop-test .taken) (c .before .quotient .ensures) (c .remainder .ensures)
 
 -- what the turn leaves
 turned : (c : tie.After-step-vector Inv-loop μ-loop)
@@ -44,7 +44,7 @@ turned c =
     let t = i .before .before in
     let s = S t in
     let l = t .before .loop in
-    turn (s .pre .0) (s .pre .1 .0) (l .q) (l .t) (c .step-vector .result) _ _ (l .za) _ (t .loop-test .taken) (l .inv .1) (l .inv .2) (i .before .over .ensures) (i .past .ensures) (c .step-vector .ensures)
+    turn (s .pre .0) (s .pre .1 .0) (l .q) (l .t) (c .step-vector .result) _ _ (l .za) _ (t .loop-test .taken) (l .inv .1) (l .inv .2) (i .before .quotient .ensures) (i .remainder .ensures) (c .step-vector .ensures)
 
 -- and that the count stays small
 small : (c : tie.After-step-vector Inv-loop μ-loop)
@@ -69,15 +69,15 @@ loop-holds : tie.Need-loop-holds Inv-loop μ-loop
 unfolding replaced
 loop-holds c = (omega arith, refl, sym (toggled-same _), omega arith, refl)
 
-over-requires : tie.Need-over-requires Inv-loop μ-loop
-over-requires c κs =
+quotient-requires : tie.Need-quotient-requires Inv-loop μ-loop
+quotient-requires c κs =
     let s = S c in
-    two-or-four-vectors (s .args .fields) (s .pre .0 .sources .ranges) (s .pre .0 .into) (s .args .k) (s .pre .1 .1)
+    two-or-four-vectors (s .args .fields) (s .pre .0 .into) (s .args .k) (s .pre .1 .1)
 
-past-requires : tie.Need-past-requires Inv-loop μ-loop
-past-requires c κs =
+remainder-requires : tie.Need-remainder-requires Inv-loop μ-loop
+remainder-requires c κs =
     let s = S (c .before) in
-    two-or-four-vectors (s .args .fields) (s .pre .0 .sources .ranges) (s .pre .0 .into) (s .args .k) (s .pre .1 .1)
+    two-or-four-vectors (s .args .fields) (s .pre .0 .into) (s .args .k) (s .pre .1 .1)
 
 mul-step-vector : tie.Need-mul-step-vector Inv-loop μ-loop
 mul-step-vector c = omega (arith, here c .0, S (c .before .before) .pre .0 .sources .width .most)
@@ -132,8 +132,8 @@ step-vectors-spec =
     cast-count
     mul-count
     loop-holds
-    over-requires
-    past-requires
+    quotient-requires
+    remainder-requires
     mul-step-vector
     add-step-vector
     add-step-vector-2

@@ -1,108 +1,143 @@
--- `recipes::fresh` meets its contract. Assumes nothing.
-use mathlib.Core.Path.{refl}
-use Prim.Native.Nat.{_+_, _*_, _≤_}
-use lib.ListN.{length, drop}
-use Rattle.elements.specs.Size.{bytesOf}
-use Rattle.recipes.specs.Element.{chosen}
-use Rattle.recipes.proofs.Steps.{number-le, at-place, element-is, room-by}
+-- `recipes::fresh` meets its contract, lane by lane. Assumes nothing.
+use Prim.Native.Nat.{ℕ}
+use mathlib.Core.Path.{_≡_, refl}
+use mathlib.Core.Logic.{inl, inr}
 use native.Mathlib.Omega.{arith}
 use borrow.Author.Needs.{needs}
+use Rattle.lanes.proofs.Widths.{doubled}
+use Rattle.recipes.specs.Saturating.{satElement, ElementThere}
+use Rattle.recipes.proofs.Saturating.{last-lane}
 use Rattle.recipes.proofs.fresh.Statement.{statement}
 use Rattle.recipes.proofs.fresh.Tie as tie
 
-abbrev S : tie.After-bytes-of2 → tie.Start
-S b = b .before .before .before .before .before .before
+-- what there is in lanes of so many bits
+abbrev There : ℕ → tie.Start → Type 0
+There lane s = ElementThere lane (s .args .part) (s .args .index) (s .args .z .now) (s .args .at) (s .args .n) (s .args .m) (s .args .e)
 
--- the places, by the sizes that the code has asked for
-old-room : (b : tie.After-bytes-of2) → S b .args .at + (S b .args .e * b .bytes-of2 .result + b .bytes-of2 .result) ≤ length (S b .args .old .now)
-old-room b = room-by (S b .args .at) _ _ _ _ _ refl (b .bytes-of2 .ensures) (S b .pre .0 .room)
+there-16 : (c : tie.Then1) → There 16 (c .before .before)
+there-16 c = rw (c .if1 .taken) at (c .before .before .pre .1)
 
-first-room : (c : tie.After-chosen)
-    → let b = c .before .before in
-    S b .args .n + (c .chosen .result * b .before .bytes-of .result + b .before .bytes-of .result) ≤ length (S b .args .z .now)
-first-room c = let b = c .before .before in room-by (S b .args .n) _ _ _ _ _ (c .chosen .ensures) (b .before .bytes-of .ensures) (S b .pre .0 .first)
+lane-32 : (c : tie.Else1) → c .before .before .args .lane ≡ 32
+lane-32 c = last-lane (c .before .before .pre .0) (c .if1 .left)
 
-second-room : (c : tie.After-chosen2)
-    → let b = c .before .before .before .before in
-    S b .args .m + (c .chosen2 .result * b .before .bytes-of .result + b .before .bytes-of .result) ≤ length (S b .args .z .now)
-second-room c = let b = c .before .before .before .before in room-by (S b .args .m) _ _ _ _ _ (c .chosen2 .ensures) (b .before .bytes-of .ensures) (S b .pre .0 .second)
+there-32 : (c : tie.Else1) → There 32 (c .before .before)
+there-32 c = rw (lane-32 c) at (c .before .before .pre .1)
 
-bytes-of-requires : tie.Need-bytes-of-requires
-bytes-of-requires c κs = search needs
+sub-s : tie.Need-sub-s
+sub-s c = search needs
 
-bytes-of-requires-2 : tie.Need-bytes-of-requires-2
-bytes-of-requires-2 c κs = search needs
+mul-lane-at : tie.Need-mul-lane-at
+mul-lane-at c = omega (arith, there-16 c .old)
 
-mul-element-at : tie.Need-mul-element-at
-mul-element-at c = omega (arith, old-room c)
+add-lane-at : tie.Need-add-lane-at
+add-lane-at c = omega (arith, there-16 c .old)
 
-add-element-at : tie.Need-add-element-at
-add-element-at c = omega (arith, old-room c)
+lane-at-requires : tie.Need-lane-at-requires
+lane-at-requires c κs = (inr (inr refl), there-16 c .old)
 
-element-at-requires : tie.Need-element-at-requires
-element-at-requires c κs = omega (arith, old-room c, c .bytes-of2 .ensures)
+mul-element : tie.Need-mul-element
+mul-element c = omega (arith, there-16 (c .before) .first)
 
-chosen-requires : tie.Need-chosen-requires
-chosen-requires c κs =
-    let s = S (c .before) in
-    omega (arith, number-le (s .args .recipe .lane) (chosen (s .args .recipe .lane) (s .args .recipe .first) (s .args .e)), s .pre .0 .first)
+add-element : tie.Need-add-element
+add-element c = omega (arith, there-16 (c .before) .first)
 
-mul-element-at-2 : tie.Need-mul-element-at-2
-mul-element-at-2 c = omega (arith, first-room c)
+mul-element-2 : tie.Need-mul-element-2
+mul-element-2 c = omega (arith, there-16 (c .before) .first)
 
-add-element-at-2 : tie.Need-add-element-at-2
-add-element-at-2 c = omega (arith, first-room c)
+add-element-2 : tie.Need-add-element-2
+add-element-2 c = omega (arith, there-16 (c .before) .first)
 
-element-at-requires-2 : tie.Need-element-at-requires-2
-element-at-requires-2 c κs = omega (arith, first-room c, c .before .before .before .bytes-of .ensures)
+mul-element-3 : tie.Need-mul-element-3
+mul-element-3 c = omega (arith, there-16 (c .before) .second)
 
-chosen-requires-2 : tie.Need-chosen-requires-2
-chosen-requires-2 c κs =
-    let s = S (c .before .before .before) in
-    omega (arith, number-le (s .args .recipe .lane) (chosen (s .args .recipe .lane) (s .args .recipe .second) (s .args .e)), s .pre .0 .second)
+add-element-3 : tie.Need-add-element-3
+add-element-3 c = omega (arith, there-16 (c .before) .second)
 
-mul-element-at-3 : tie.Need-mul-element-at-3
-mul-element-at-3 c = omega (arith, second-room c)
+mul-element-4 : tie.Need-mul-element-4
+mul-element-4 c = omega (arith, there-16 (c .before) .second)
 
-add-element-at-3 : tie.Need-add-element-at-3
-add-element-at-3 c = omega (arith, second-room c)
+add-element-4 : tie.Need-add-element-4
+add-element-4 c = omega (arith, there-16 (c .before) .second)
 
-element-at-requires-3 : tie.Need-element-at-requires-3
-element-at-requires-3 c κs = omega (arith, second-room c, c .before .before .before .before .before .bytes-of .ensures)
-
-sat-step-requires : tie.Need-sat-step-requires
-sat-step-requires c κs = search needs
+element-requires : tie.Need-element-requires
+element-requires c κs = (doubled 16 (inr (inl refl)), (search needs, (there-16 (c .before) .first, there-16 (c .before) .second)))
 
 returns : tie.Need-returns
-returns c =
-    let y = c .before in
-    let x = y .before .before in
-    let b = x .before .before .before in
-    let a = S b .args in
-    let k = bytesOf (a .recipe .lane) in
-    element-is (a .recipe) (drop (a .at) (a .old .now)) (drop (a .n) (a .z .now)) (drop (a .m) (a .z .now)) (a .e) _ _ _ _
-    (at-place (bytesOf (a .recipe .wide)) (a .at) (a .e) _ _ _ (a .old .now) refl (b .bytes-of2 .ensures) (x .before .before .element-at .ensures .0))
-    (at-place k (a .n) (chosen (a .recipe .lane) (a .recipe .first) (a .e)) _ _ _ (a .z .now) (x .before .chosen .ensures) (b .before .bytes-of .ensures) (x .element-at2 .ensures .0))
-    (at-place k (a .m) (chosen (a .recipe .lane) (a .recipe .second) (a .e)) _ _ _ (a .z .now) (y .before .chosen2 .ensures) (b .before .bytes-of .ensures) (y .element-at3 .ensures .0))
-    (S b .pre .1)
-    (c .sat-step .ensures .0)
+unfolding satElement
+returns c = rw (c .before .before .if1 .taken, ← c .before .lane-at .ensures .0) (c .element .ensures)
+
+sub-s-2 : tie.Need-sub-s-2
+sub-s-2 c = search needs
+
+mul-read8 : tie.Need-mul-read8
+mul-read8 c = omega (arith, there-32 c .old)
+
+add-read8 : tie.Need-add-read8
+add-read8 c = omega (arith, there-32 c .old)
+
+read8-requires : tie.Need-read8-requires
+read8-requires c κs = there-32 c .old
+
+mul-element-5 : tie.Need-mul-element-5
+mul-element-5 c = omega (arith, there-32 (c .before) .first)
+
+add-element-5 : tie.Need-add-element-5
+add-element-5 c = omega (arith, there-32 (c .before) .first)
+
+mul-element-6 : tie.Need-mul-element-6
+mul-element-6 c = omega (arith, there-32 (c .before) .first)
+
+add-element-6 : tie.Need-add-element-6
+add-element-6 c = omega (arith, there-32 (c .before) .first)
+
+mul-element-7 : tie.Need-mul-element-7
+mul-element-7 c = omega (arith, there-32 (c .before) .second)
+
+add-element-7 : tie.Need-add-element-7
+add-element-7 c = omega (arith, there-32 (c .before) .second)
+
+mul-element-8 : tie.Need-mul-element-8
+mul-element-8 c = omega (arith, there-32 (c .before) .second)
+
+add-element-8 : tie.Need-add-element-8
+add-element-8 c = omega (arith, there-32 (c .before) .second)
+
+element-requires-2 : tie.Need-element-requires-2
+element-requires-2 c κs = (doubled 32 (inr (inr refl)), (search needs, (there-32 (c .before) .first, there-32 (c .before) .second)))
+
+returns-2 : tie.Need-returns-2
+unfolding satElement
+returns-2 c = rw (lane-32 (c .before .before), ← c .before .read8 .ensures .0) (c .element2 .ensures)
 
 pub fresh-spec : {M : Type 1} → statement M
 fresh-spec =
     tie.close
     (tie.spec
-    bytes-of-requires
-    bytes-of-requires-2
-    mul-element-at
-    add-element-at
-    element-at-requires
-    chosen-requires
-    mul-element-at-2
-    add-element-at-2
-    element-at-requires-2
-    chosen-requires-2
-    mul-element-at-3
-    add-element-at-3
-    element-at-requires-3
-    sat-step-requires
-    returns)
+    sub-s
+    mul-lane-at
+    add-lane-at
+    lane-at-requires
+    mul-element
+    add-element
+    mul-element-2
+    add-element-2
+    mul-element-3
+    add-element-3
+    mul-element-4
+    add-element-4
+    element-requires
+    returns
+    sub-s-2
+    mul-read8
+    add-read8
+    read8-requires
+    mul-element-5
+    add-element-5
+    mul-element-6
+    add-element-6
+    mul-element-7
+    add-element-7
+    mul-element-8
+    add-element-8
+    element-requires-2
+    returns-2)

@@ -4,6 +4,7 @@ use native.Mathlib.Omega.{arith}
 use mathlib.Core.Path.{_≡_, refl, _∙_}
 use lib.ListN.{length, getD}
 use Rattle.machine.specs.Execute.{executePaper}
+use Rattle.machine.proofs.Executing.{still-ready}
 use borrow.Author.Needs.{needs}
 use Rattle.runlist.proofs.Runs.{Running, starting, Turned, turned, counts-small, turn, finished}
 use Rattle.runlist.proofs.perform.Statement.{statement}
@@ -18,10 +19,10 @@ abbrev μ-loop : tie.MeasureT-loop
 μ-loop settings words z₀ za₀ report₀ tally₀ i₀ z za report tally i = length words - i
 
 -- the places that the answers speak of: the word's execution, the turn's start, the entry
-abbrev executed : tie.After-report-of Inv-loop μ-loop → tie.After-execute Inv-loop μ-loop
+abbrev executed : tie.After-report-of Inv-loop μ-loop → tie.After-execute-word Inv-loop μ-loop
 executed c = c .before .before .before .before .before
 
-abbrev head : tie.After-execute Inv-loop μ-loop → tie.At-loop Inv-loop μ-loop
+abbrev head : tie.After-execute-word Inv-loop μ-loop → tie.At-loop Inv-loop μ-loop
 head c = c .before .before .before .before .before
 
 abbrev entry : tie.At-loop Inv-loop μ-loop → tie.Start Inv-loop μ-loop
@@ -30,20 +31,22 @@ entry c = c .before .before .before .before .before
 -- the word of this turn was executed
 word-done : (c : tie.After-report-of Inv-loop μ-loop)
     → Turned (executePaper (entry (head (executed c)) .args .settings) (getD (entry (head (executed c)) .args .words .now) (head (executed c) .loop .i) 0) (head (executed c) .loop .z) (head (executed c) .loop .za))
-    (c .report-of .result) (executed c .execute .last .1 .1 .0) (executed c .execute .last .1 .1 .1 .0)
-word-done c = turned _ _ _ _ (executed c .execute .result) _ _ _ (executed c .execute .ensures) (c .report-of .ensures)
+    (c .report-of .result) (executed c .execute-word .last .1 .1 .0) (executed c .execute-word .last .1 .1 .1 .0)
+word-done c = turned _ _ _ _ (executed c .execute-word .result) _ _ _ (executed c .execute-word .ensures) (c .report-of .ensures)
 
 loop-holds : tie.Need-loop-holds Inv-loop μ-loop
 loop-holds c = (omega arith, refl, refl, refl, starting _ _ _ _ _)
 
-mul-execute : tie.Need-mul-execute Inv-loop μ-loop
-mul-execute c = search needs
+mul-execute-word : tie.Need-mul-execute-word Inv-loop μ-loop
+mul-execute-word c = search needs
 
-shared-slice-read-execute : tie.Need-shared-slice-read-execute Inv-loop μ-loop
-shared-slice-read-execute c = search needs
+shared-slice-read-execute-word : tie.Need-shared-slice-read-execute-word Inv-loop μ-loop
+shared-slice-read-execute-word c = search needs
 
-execute-requires : tie.Need-execute-requires Inv-loop μ-loop
-execute-requires c κs = search needs
+execute-word-requires : tie.Need-execute-word-requires Inv-loop μ-loop
+execute-word-requires c κs =
+    let l = c .before .before .before .before in
+    still-ready _ _ _ _ _ (entry l .pre .0) (l .loop .inv .1) (l .loop .inv .2)
 
 report-of-requires : tie.Need-report-of-requires Inv-loop μ-loop
 report-of-requires c κs = search needs
@@ -69,10 +72,10 @@ loop-again c =
     let counted = put .before .before in
     let done = executed (counted .before) in
     let l = head done .loop in
-    let room : 3 * l .i + 3 ≤ length (l .report) = omega (arith, entry (head done) .pre .1, done .before .before .before .before .loop-test .taken, l .inv .3) in (
+    let room : 3 * l .i + 3 ≤ length (l .report) = omega (arith, entry (head done) .pre .1 .1, done .before .before .before .before .loop-test .taken, l .inv .3) in (
       omega arith,
-      done .execute .kept .1 .1 .0 ∙ l .inv .1,
-      done .execute .kept .1 .1 .1 .0 ∙ l .inv .2,
+      done .execute-word .kept .1 .1 .0 ∙ l .inv .1,
+      done .execute-word .kept .1 .1 .1 .0 ∙ l .inv .2,
       put .put-report .kept .0 ∙ l .inv .3,
       turn _ _ _ (search needs) _ _ _ _ _ (word-done (counted .before)) _ _ _ _ _ _ _ (l .inv .4) room (put .put-report .ensures) (counted .counted .ensures),
     )
@@ -96,9 +99,9 @@ perform-spec =
     Inv-loop
     μ-loop
     loop-holds
-    mul-execute
-    shared-slice-read-execute
-    execute-requires
+    mul-execute-word
+    shared-slice-read-execute-word
+    execute-word-requires
     report-of-requires
     counted-requires
     put-report-requires

@@ -8,20 +8,17 @@ use lib.ListN.{length}
 use borrow.Author.Tests.{not-true, not-false}
 use Rattle.settings.specs.Valid.{validSettings}
 use Rattle.machine.specs.Execute.{rightLengths}
-use Rattle.runlist.proofs.Plans.{unsettled, wrong-lengths, cut-short, stopped, gone-on}
+use Rattle.runlist.proofs.Plans.{unsettled, wrong-lengths, cut-short, gone-on}
 use borrow.Author.Needs.{needs}
 use Rattle.runlist.proofs.read_rest.Statement.{statement}
 use Rattle.runlist.proofs.read_rest.Tie as tie
 
--- the places that the answers speak of: the entry and the words
+-- the places that the answers speak of: the entry and its list
 abbrev entry : tie.After-valid → tie.Start
-entry c = c .before .before .before
+entry c = c .before .before
 
 abbrev list : tie.Start → List ℕ
 list c = c .args .list .now
-
-abbrev tested : tie.After-read-words → tie.Else3
-tested c = c .before .before
 
 -- the two tests held
 valid-so : (c : tie.Else1) → validSettings (entry (c .before) .args .settings) ≡ true
@@ -32,19 +29,19 @@ long-so c = sym (c .before .right-lengths .ensures) ∙ not-false _ (c .if2 .lef
 
 -- and the Z bytes are there
 z-there : (c : tie.Else3) → entry (c .before .before .before .before) .args .at + entry (c .before .before .before .before) .args .z ≤ length (list (entry (c .before .before .before .before)))
-z-there c = omega (arith, c .if3 .left, entry (c .before .before .before .before) .pre .0)
+z-there c = omega (arith, c .if3 .left, entry (c .before .before .before .before) .pre)
 
 valid-requires : tie.Need-valid-requires
 valid-requires c κs = search needs
 
 returns : tie.Need-returns
-returns c = unsettled _ _ _ _ _ _ _ (sym (c .before .valid .ensures) ∙ not-true _ (c .if1 .taken))
+returns c = unsettled _ _ _ _ _ _ (sym (c .before .valid .ensures) ∙ not-true _ (c .if1 .taken))
 
 right-lengths-requires : tie.Need-right-lengths-requires
 right-lengths-requires c κs = valid-so c
 
 returns-2 : tie.Need-returns-2
-returns-2 c = wrong-lengths _ _ _ _ _ _ _ (valid-so (c .before .before)) (sym (c .before .right-lengths .ensures) ∙ not-true _ (c .if2 .taken))
+returns-2 c = wrong-lengths _ _ _ _ _ _ (valid-so (c .before .before)) (sym (c .before .right-lengths .ensures) ∙ not-true _ (c .if2 .taken))
 
 sub-if3 : tie.Need-sub-if3
 sub-if3 c = search needs
@@ -52,38 +49,16 @@ sub-if3 c = search needs
 returns-3 : tie.Need-returns-3
 returns-3 c =
     let e = entry (c .before .before .before .before) in
-    let short : length (list e) < e .args .at + e .args .z = omega (arith, c .if3 .taken, e .pre .0) in
-    cut-short _ _ _ _ _ _ _ (valid-so (c .before .before .before)) (long-so (c .before)) short
+    let short : length (list e) < e .args .at + e .args .z = omega (arith, c .if3 .taken, e .pre) in
+    cut-short _ _ _ _ _ _ (valid-so (c .before .before .before)) (long-so (c .before)) short
 
-add-read-words : tie.Need-add-read-words
-add-read-words c = search needs
-
-read-words-requires : tie.Need-read-words-requires
-read-words-requires c κs = search needs
-
-enum-known-refusal : tie.Need-enum-known-refusal
-enum-known-refusal c = search needs
-
-enum-known-words : tie.Need-enum-known-words
-enum-known-words c = search needs
-
-same-length : tie.Need-same-length
-same-length c = search needs
+read-count-requires : tie.Need-read-count-requires
+read-count-requires c κs = z-there c
 
 returns-4 : tie.Need-returns-4
 returns-4 c =
-    let w = c .before .before .before .before .before in
-    let t = tested w in
-    stopped _ _ _ _ _ _ _ (valid-so (t .before .before .before)) (long-so (t .before)) (z-there t) _ _ (w .read-words .ensures) _ _ (c .before .refusal .given .1)
-
-same-length-2 : tie.Need-same-length-2
-same-length-2 c = search needs
-
-returns-5 : tie.Need-returns-5
-returns-5 c =
-    let w = c .before .before .before .before .before in
-    let t = tested w in
-    gone-on _ _ _ _ _ _ _ (valid-so (t .before .before .before)) (long-so (t .before)) (z-there t) _ _ (w .read-words .ensures) _ (c .before .words2 .given .1)
+    let t = c .before in
+    gone-on _ _ _ _ _ _ (valid-so (t .before .before .before)) (long-so (t .before)) (z-there t) _ (c .read-count .ensures)
 
 pub read-rest-spec : {M : Type 1} → statement M
 read-rest-spec =
@@ -95,11 +70,5 @@ read-rest-spec =
     returns-2
     sub-if3
     returns-3
-    add-read-words
-    read-words-requires
-    enum-known-refusal
-    enum-known-words
-    same-length
-    returns-4
-    same-length-2
-    returns-5)
+    read-count-requires
+    returns-4)

@@ -1,7 +1,7 @@
 -- `runlist::read_to_end` meets its contract. Assumes nothing.
 use Prim.Native.Nat.{ℕ}
 use native.Mathlib.Omega.{arith}
-use mathlib.Core.Path.{_≡_, refl, sym, _∙_}
+use mathlib.Core.Path.{_≡_, sym, _∙_}
 use mathlib.Core.List.{List}
 use lib.ListN.{length}
 use Rattle.numbers.specs.Numbers.{Numbers, numbersAt, rowOf}
@@ -43,7 +43,7 @@ same-length c = search needs
 returns : tie.Need-returns
 returns c =
     let n = c .before .before in
-    (extra-ends (list (read n)) (numbers (read n)) _ (ended n) (c .if1 .taken), (tt, read n .read-numbers .ensures .1))
+    (extra-ends (list (read n)) (numbers (read n)) _ (ended n) (c .if1 .taken), read n .read-numbers .ensures .1)
 
 same-length-2 : tie.Need-same-length-2
 same-length-2 c = search needs
@@ -51,7 +51,7 @@ same-length-2 c = search needs
 returns-2 : tie.Need-returns-2
 returns-2 c =
     let k = c .before .before .before .before .before in
-    (fault-ends (list k) (numbers k) _ _ (sym (k .read-numbers .ensures .0) ∙ c .before .refusal .given .1), (tt, k .read-numbers .ensures .1))
+    (fault-ends (list k) (numbers k) _ _ (sym (k .read-numbers .ensures .0) ∙ c .before .refusal .given .1), k .read-numbers .ensures .1)
 
 same-length-3 : tie.Need-same-length-3
 same-length-3 c = search needs
@@ -59,10 +59,8 @@ same-length-3 c = search needs
 returns-3 : tie.Need-returns-3
 returns-3 c =
     let n = c .before .before in
-    let k = read n .read-numbers in (
-      found-ends (list (read n)) (numbers (read n)) _ (ended n) (c .if1 .left) _ _ (whole-row (list (read n)) _ _ (entry (read n) .args .words .now) _ (ended n) (k .ensures .1)) refl,
-      (omega (arith, k .kept .1 .1 .0), k .ensures .1),
-    )
+    let k = read n .read-numbers in
+    (found-ends (list (read n)) (numbers (read n)) _ (ended n) (c .if1 .left) _ (whole-row (list (read n)) _ _ (entry (read n) .args .words .now) _ (ended n) (k .ensures .1)), k .ensures .1)
 
 pub read-to-end-spec : {M : Type 1} → statement M
 read-to-end-spec =

@@ -1,85 +1,79 @@
 -- `runlist::run` meets its contract. Assumes nothing.
-use Prim.Native.Nat.{ℕ}
+use Prim.Native.Nat.{ℕ, _*_, _≤_}
 use native.Mathlib.Omega.{arith}
 use mathlib.Core.Path.{_≡_, sym, ap, ap₂, _∙_, subst}
 use mathlib.Core.List.{List}
 use lib.ListN.{length, take}
 use lib.Seq.{length-take-le}
 use Rattle.settings.specs.declared.Settings.{Settings}
-use Rattle.runlist.specs.Plan.{found, settingsOf, planOf}
-use Rattle.runlist.specs.Rooms.{planSays, PlanFits}
-use Rattle.runlist.specs.declared.Plan.{Plan}
-use Rattle.runlist.specs.declared.Plan.the-variants.{Go}
-use Rattle.runlist.proofs.Runs.{not-run, is-run}
+use Rattle.runlist.specs.Plan.{mostWords, settingsOf, planOf}
+use Rattle.machine.specs.Loop.{Ready}
+use Rattle.machine.proofs.Executing.{is-ready}
+use Rattle.runlist.specs.Rooms.{goesOn, frontSays, FrontFits, Settled}
+use Rattle.runlist.specs.declared.Front.{Front}
+use Rattle.runlist.specs.declared.Front.the-variants.{Words}
+use Rattle.runlist.proofs.Runs.{refused-run, run-on}
 use borrow.Author.Needs.{needs}
 use Rattle.runlist.proofs.run.Statement.{statement}
 use Rattle.runlist.proofs.run.Tie as tie
 
--- the places that the answers speak of: the entry, the plan, and where it goes on
-abbrev entry : tie.After-read-list → tie.Start
-entry c = c .before .before .before .before .before .before .before
+-- the places that the answers speak of: the entry, what stands before the words, the settings, the words
+abbrev entry : tie.After-read-front → tie.Start
+entry c = c .before .before .before .before .before .before
 
-abbrev read : tie.After-at → tie.After-read-list
-read c = c .before .before .before .before
-
-abbrev place : tie.After-at → ℕ
-place c = c .at .given .0 .0
-
-abbrev count : tie.After-at → ℕ
-count c = c .at .given .0 .1 .0
+abbrev read : tie.After-at → tie.After-read-front
+read c = c .before .before .before
 
 abbrev settled : tie.After-settings-of → tie.After-at
 settled c = c .before .before .before
 
-abbrev copied : tie.After-copy → tie.After-settings-of
-copied c = c .before .before
+abbrev place : tie.After-at → ℕ
+place c = c .at .given .0 .0
 
-abbrev cleared : tie.After-clear → tie.After-copy
-cleared c = c .before .before .before .before
+abbrev from : tie.After-at → ℕ
+from c = c .at .given .0 .1 .0
 
-abbrev shared : tie.After-words3 → tie.After-clear
-shared c = c .before .before .before
+abbrev count : tie.After-at → ℕ
+count c = c .at .given .0 .1 .1 .0
 
-abbrev performed : tie.After-perform → tie.After-words3
-performed c = c .before .before .before .before
+-- the numbers in front, as they were read
+abbrev head : tie.After-read-front → List ℕ
+head c = c .read-front .last .1 .1 .1 .1 .0
 
-abbrev go : tie.After-clear → tie.After-at
-go c = settled (copied (cleared c))
-
--- the numbers in front and the words, as they were read
-abbrev head : tie.After-at → List ℕ
-head c = read c .read-list .last .1 .1 .1 .1 .0
-
-abbrev words : tie.After-at → List ℕ
-words c = read c .read-list .last .1 .1 .1 .1 .1 .0
-
-going : (c : tie.After-at) → read c .read-list .result ≡ Go (place c) (count c)
-going c = c .at .given .1
-
-fits : (c : tie.After-at) → PlanFits (Go (place c) (count c)) (length (entry (read c) .args .list .now)) (length (entry (read c) .args .z .now)) (length (entry (read c) .args .report .now))
+fits : (c : tie.After-at) → FrontFits (Words (place c) (from c) (count c)) (length (entry (read c) .args .list .now)) (length (entry (read c) .args .z .now)) (length (entry (read c) .args .report .now))
 fits c =
-    subst (λ (p : Plan). PlanFits p (length (entry (read c) .args .list .now)) (length (entry (read c) .args .z .now)) (length (entry (read c) .args .report .now)))
-    (going c) (read c .read-list .ensures .fits)
+    subst (λ (f : Front). FrontFits f (length (entry (read c) .args .list .now)) (length (entry (read c) .args .z .now)) (length (entry (read c) .args .report .now)))
+    (c .at .given .1) (read c .read-front .ensures .fits)
 
--- as many words as the plan counts
-as-many : (c : tie.After-at) → length (take (count c) (words c)) ≡ count c
-as-many c = length-take-le (count c) (words c) (omega (arith, fits c .1, read c .read-list .kept .1 .1 .1 .1 .1 .0))
+-- Z and ZA are as long as the settings ask for
+ready : (c : tie.After-settings-of) → Ready (c .settings-of .result) (entry (read (settled c)) .args .z .now) (entry (read (settled c)) .args .za .now)
+ready c =
+    let g = settled c in
+    let a = entry (read g) .args in
+    let so : Settled (Words (place g) (from g) (count g)) (settingsOf (head (read g))) (length (a .z .now)) (length (a .za .now)) =
+    subst (λ (f : Front). Settled f (settingsOf (head (read g))) (length (a .z .now)) (length (a .za .now))) (g .at .given .1) (read g .read-front .ensures .settled) in
+    subst (λ (s : Settings). Ready s (a .z .now) (a .za .now)) (sym (c .settings-of .ensures)) (is-ready _ _ _ (so .0) (so .1))
 
-planned : (c : tie.After-at)
-    → planSays (Go (place c) (count c)) (entry (read c) .args .list .now) (length (entry (read c) .args .z .now)) (settingsOf (head c)) (words c)
-    ≡ planOf (entry (read c) .args .list .now) (length (entry (read c) .args .z .now)) (length (entry (read c) .args .za .now)) (length (entry (read c) .args .report .now))
-planned c =
-    ap (λ (p : Plan). planSays p (entry (read c) .args .list .now) (length (entry (read c) .args .z .now)) (settingsOf (head c)) (words c)) (sym (going c))
-    ∙ read c .read-list .ensures .says
+-- a room of n words makes up the plan, where n is the count
+planned : (c : tie.After-settings-of) (n : ℕ) → n ≡ count (settled c)
+    → goesOn (c .settings-of .result) (entry (read (settled c)) .args .list .now) (place (settled c)) (length (entry (read (settled c)) .args .z .now)) (from (settled c)) n
+    ≡ planOf (entry (read (settled c)) .args .list .now) (length (entry (read (settled c)) .args .z .now)) (length (entry (read (settled c)) .args .za .now)) (length (entry (read (settled c)) .args .report .now))
+planned c n e =
+    let g = settled c in
+    let a = entry (read g) .args in
+    ap₂ (λ (s : Settings) (m : ℕ). goesOn s (a .list .now) (place g) (length (a .z .now)) (from g) m) (c .settings-of .ensures) e
+    ∙ ap (λ (f : Front). frontSays f (settingsOf (head (read g))) (a .list .now) (length (a .z .now))) (sym (g .at .given .1))
+    ∙ read g .read-front .ensures .says
 
-slice-aggregate-read-list : tie.Need-slice-aggregate-read-list
-slice-aggregate-read-list c = search needs
+-- the first n places of a room are as many
+fit : (n report : ℕ) (room : List ℕ) → n ≤ length room → n ≤ mostWords → 3 * n ≤ report → (length (take n room) ≤ mostWords) × (3 * length (take n room) ≤ report)
+fit n report room h m k = let long = length-take-le n room h in (omega arith, omega arith)
 
-slice-aggregate-read-list-2 : tie.Need-slice-aggregate-read-list-2
-slice-aggregate-read-list-2 c = search needs
+slice-aggregate-read-front : tie.Need-slice-aggregate-read-front
+slice-aggregate-read-front c = search needs
 
-read-list-requires : tie.Need-read-list-requires
-read-list-requires c κs = search needs
+read-front-requires : tie.Need-read-front-requires
+read-front-requires c κs = search needs
 
 enum-known-refusal : tie.Need-enum-known-refusal
 enum-known-refusal c = search needs
@@ -93,32 +87,17 @@ slice-aggregate-settings-of c = search needs
 settings-of-requires : tie.Need-settings-of-requires
 settings-of-requires c κs = search needs
 
-copy-requires : tie.Need-copy-requires
-copy-requires c κs = fits (settled (c .before)) .0
+array-borrow-prefix-few : tie.Need-array-borrow-prefix-few
+array-borrow-prefix-few c = search needs
 
-clear-requires : tie.Need-clear-requires
-clear-requires c κs = search needs
+slice-aggregate-run-words : tie.Need-slice-aggregate-run-words
+slice-aggregate-run-words c = sym (length-take-le _ _ (c .before .if1 .taken))
 
-array-share-prefix-words : tie.Need-array-share-prefix-words
-array-share-prefix-words c =
-    let g = go (c .before .before) in
-    omega (arith, fits g .1, read g .read-list .kept .1 .1 .1 .1 .1 .0)
-
-slice-aggregate-perform : tie.Need-slice-aggregate-perform
-slice-aggregate-perform c = sym (as-many (go (shared c)))
-
-perform-requires : tie.Need-perform-requires
-perform-requires c κs =
-    let g = go (shared (c .before .before .before)) in
-    (omega (arith, as-many g, fits g .1), omega (arith, as-many g, fits g .2))
-
-returns : tie.Need-returns
-returns c =
-    let k = c .before .before .before .before .before in
-    let a = entry k .args in
-    not-run (a .list .now) (a .z .now) (a .za .now) (a .report .now) _ _
-    (ap (λ (p : Plan). planSays p (a .list .now) (length (a .z .now)) (settingsOf (k .read-list .last .1 .1 .1 .1 .0)) (k .read-list .last .1 .1 .1 .1 .1 .0)) (sym (c .before .refusal .given .1))
-    ∙ k .read-list .ensures .says)
+run-words-requires : tie.Need-run-words-requires
+run-words-requires c κs =
+    let t = c .before .before .before .before in
+    let f = fits (settled (t .before)) in
+    ((ready (t .before), f .0), fit _ _ _ (t .if1 .taken) (f .1) (f .2))
 
 same-length : tie.Need-same-length
 same-length c = search needs
@@ -129,38 +108,75 @@ same-length-2 c = search needs
 same-length-3 : tie.Need-same-length-3
 same-length-3 c = search needs
 
+returns : tie.Need-returns
+returns c =
+    let x = c .before .before .before .before .before .before .before in
+    let t = x .before .before .before .before .before in
+    let s = t .before in
+    let a = entry (read (settled s)) .args in
+    let l = x .run-words .last .1 .1 .1 .1 .1 in
+    run-on (a .list .now) (a .z .now) (a .za .now) (a .report .now) _ (x .run-words .result) (l .0) (l .1 .0) (l .1 .1 .0)
+    (planned s _ (length-take-le _ _ (t .if1 .taken))) (x .run-words .ensures)
+
+array-borrow-prefix-words : tie.Need-array-borrow-prefix-words
+array-borrow-prefix-words c = fits (settled (c .before)) .1
+
+slice-aggregate-run-words-2 : tie.Need-slice-aggregate-run-words-2
+slice-aggregate-run-words-2 c = sym (length-take-le _ _ (fits (settled (c .before .before)) .1))
+
+run-words-requires-2 : tie.Need-run-words-requires-2
+run-words-requires-2 c κs =
+    let s = c .before .before .before .before .before in
+    let f = fits (settled s) in
+    ((ready s, f .0), fit _ _ _ (f .1) (f .1) (f .2))
+
 returns-2 : tie.Need-returns-2
 returns-2 c =
-    let x = c .before .before .before .before .before .before in
-    let clean = shared (performed x) in
-    let copy = cleared clean in
-    let s = copied copy in
-    let g = settled s in
-    let a = entry (read g) .args in
-    is-run (a .list .now) (a .z .now) (a .za .now) (a .report .now) (s .settings-of .result) (copy .copy .last .1 .1 .0) (clean .clear .last .0) (take (count g) (words g)) (count g) _ _ _ _
-    (ap₂ (λ (q : Settings) (z : List ℕ). found (record { settings = q; z = z; words = take (count g) (words g) })) (s .settings-of .ensures) (copy .copy .ensures) ∙ planned g)
-    (clean .clear .ensures)
-    (as-many g)
-    (x .perform .ensures)
+    let r = c .before .before .before .before in
+    let a = entry r .args in
+    refused-run (a .list .now) (a .z .now) (a .za .now) (a .report .now) _ _
+    (ap (λ (f : Front). frontSays f (settingsOf (head r)) (a .list .now) (length (a .z .now))) (sym (c .before .refusal .given .1)) ∙ r .read-front .ensures .says)
+
+same-length-4 : tie.Need-same-length-4
+same-length-4 c = search needs
+
+same-length-5 : tie.Need-same-length-5
+same-length-5 c = search needs
+
+same-length-6 : tie.Need-same-length-6
+same-length-6 c = search needs
+
+returns-3 : tie.Need-returns-3
+returns-3 c =
+    let x = c .before .before .before .before .before .before .before in
+    let s = x .before .before .before .before .before .before in
+    let a = entry (read (settled s)) .args in
+    let l = x .run-words2 .last .1 .1 .1 .1 .1 in
+    run-on (a .list .now) (a .z .now) (a .za .now) (a .report .now) _ (x .run-words2 .result) (l .0) (l .1 .0) (l .1 .1 .0)
+    (planned s _ (length-take-le _ _ (fits (settled s) .1))) (x .run-words2 .ensures)
 
 pub run-spec : {M : Type 1} → statement M
 run-spec =
     tie.close
     (tie.spec
-    slice-aggregate-read-list
-    slice-aggregate-read-list-2
-    read-list-requires
+    slice-aggregate-read-front
+    read-front-requires
     enum-known-refusal
     enum-known-at
     slice-aggregate-settings-of
     settings-of-requires
-    copy-requires
-    clear-requires
-    array-share-prefix-words
-    slice-aggregate-perform
-    perform-requires
-    returns
+    array-borrow-prefix-few
+    slice-aggregate-run-words
+    run-words-requires
     same-length
     same-length-2
     same-length-3
-    returns-2)
+    returns
+    array-borrow-prefix-words
+    slice-aggregate-run-words-2
+    run-words-requires-2
+    returns-2
+    same-length-4
+    same-length-5
+    same-length-6
+    returns-3)

@@ -10,23 +10,23 @@ returns c = number-past _ _ (c .if1 .taken)
 mul-at : tie.Need-mul-at
 mul-at c = search needs
 
-half-at-requires : tie.Need-half-at-requires
-half-at-requires c κs = search needs
+four-at-requires : tie.Need-four-at-requires
+four-at-requires c κs = search needs
 
 mul-result : tie.Need-mul-result
 mul-result c = search needs
 
-add-half-at : tie.Need-add-half-at
-add-half-at c = search needs
+add-four-at : tie.Need-add-four-at
+add-four-at c = search needs
 
-half-at-requires-2 : tie.Need-half-at-requires-2
-half-at-requires-2 c κs = search needs
+four-at-requires-2 : tie.Need-four-at-requires-2
+four-at-requires-2 c κs = search needs
 
 add-result : tie.Need-add-result
 add-result c = search needs
 
 returns-2 : tie.Need-returns-2
-returns-2 c = number-in _ _ _ _ (c .before .before .if1 .left) (c .before .half-at .ensures .0) (c .half-at2 .ensures .0)
+returns-2 c = number-in _ _ _ _ (c .before .before .if1 .left) (c .before .four-at .ensures .0) (c .four-at2 .ensures .0)
 
 pub number-of-spec : {M : Type 1} → statement M
 number-of-spec =
@@ -34,9 +34,9 @@ number-of-spec =
     (tie.spec
     returns
     mul-at
-    half-at-requires
+    four-at-requires
     mul-result
-    add-half-at
-    half-at-requires-2
+    add-four-at
+    four-at-requires-2
     add-result
     returns-2)

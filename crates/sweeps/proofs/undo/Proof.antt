@@ -1,11 +1,11 @@
--- `sweeps::undo` meets its contract: it makes the two calls that machine's Calls.antt asks of a caller. Assumes nothing.
+-- `sweeps::undo` meets its contract: it makes the two calls that Calls.antt of demands asks of a caller. Assumes nothing.
 use mathlib.Core.Path.{refl, sym, ap, _∙_}
 use borrow.Author.Needs.{needs}
 use Rattle.words.specs.Partner.{partneredSays}
 use Rattle.words.specs.declared.Partnered.the-variants as partnered
-use Rattle.machine.specs.Calls.{UndoCalls}
 use Rattle.machine.specs.declared.Executed.the-variants as executed
-use Rattle.machine.proofs.Calls.{undo-says}
+use Rattle.demands.specs.Calls.{UndoCalls}
+use Rattle.demands.proofs.Calls.{undo-says}
 use Rattle.sweeps.proofs.undo.Statement.{statement}
 use Rattle.sweeps.proofs.undo.Tie as tie
 

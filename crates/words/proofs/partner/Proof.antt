@@ -1,44 +1,61 @@
--- `words::partner` meets its contract: what `decode` and `partner_in` ensure, by the laws of Answers.antt. Assumes nothing.
+-- `words::partner` meets its contract: the settings' test, then what the word's kind says, by the laws of Answers.antt. Assumes nothing.
 use mathlib.Core.Path.{sym, ap, _∙_}
 use borrow.Author.Needs.{needs}
-use Rattle.words.specs.Decode.{decodedSays}
-use Rattle.settings.proofs.Refusals.{refusal-not-0}
-use Rattle.words.proofs.Answers.{partner-is, partner-refused}
+use Rattle.laws.proofs.Tests.{refuted, upheld}
+use Rattle.words.specs.Sign.{partnerIn}
+use Rattle.words.specs.declared.Family.{Family}
+use Rattle.words.proofs.Answers.{partner-not-valid, partner-not-enabled, partner-by-kind}
 use Rattle.words.proofs.partner.Statement.{statement}
 use Rattle.words.proofs.partner.Tie as tie
 
-decode-requires : tie.Need-decode-requires
-decode-requires c κs = search needs
+valid-requires : tie.Need-valid-requires
+valid-requires c κs = search needs
 
-enum-known-decoded : tie.Need-enum-known-decoded
-enum-known-decoded c = search needs
+returns : tie.Need-returns
+returns c =
+    let v = c .before in
+    sym (partner-not-valid (v .before .args .settings) (v .before .args .word) (sym (v .valid .ensures) ∙ refuted _ (c .if1 .taken)))
+
+kind-of-requires : tie.Need-kind-of-requires
+kind-of-requires c κs = search needs
+
+enables-kind-requires : tie.Need-enables-kind-requires
+enables-kind-requires c κs = search needs
+
+kind-family-requires : tie.Need-kind-family-requires
+kind-family-requires c κs = search needs
 
 partner-in-requires : tie.Need-partner-in-requires
 partner-in-requires c κs = search needs
 
-enum-known-decoded-2 : tie.Need-enum-known-decoded-2
-enum-known-decoded-2 c = search needs
-
-returns : tie.Need-returns
-returns c =
-    let d = c .before .before .before .before in
-    let f = c .before .before .decoded .given .0 .0 in
-    c .partner-in .ensures
-    ∙ sym (partner-is (d .before .args .settings) (d .before .args .word) f (sym (d .decode .ensures) ∙ ap decodedSays (c .before .before .decoded .given .1)))
-
 returns-2 : tie.Need-returns-2
 returns-2 c =
-    let d = c .before .before .before in
-    let r = c .before .decoded2 .given .0 .0 in
-    sym (partner-refused (d .before .args .settings) (d .before .args .word) _ (sym (d .decode .ensures) ∙ ap decodedSays (c .before .decoded2 .given .1)) (refusal-not-0 r))
+    let f = c .before in
+    let e = f .before .before in
+    let k = e .before in
+    let n = k .before .before in
+    let s = n .before .before in
+    c .partner-in .ensures
+    ∙ ap (λ (family : Family). partnerIn family (s .args .word)) (f .kind-family .ensures)
+    ∙ sym (partner-by-kind (s .args .settings) (s .args .word) (k .kind-of .result) (sym (n .before .valid .ensures) ∙ upheld _ (n .if1 .left)) (k .kind-of .ensures) (sym (e .enables-kind .ensures) ∙ f .before .if2 .taken))
+
+returns-3 : tie.Need-returns-3
+returns-3 c =
+    let e = c .before in
+    let k = e .before in
+    let n = k .before .before in
+    let s = n .before .before in
+    sym (partner-not-enabled (s .args .settings) (s .args .word) (k .kind-of .result) (sym (n .before .valid .ensures) ∙ upheld _ (n .if1 .left)) (k .kind-of .ensures) (sym (e .enables-kind .ensures) ∙ c .if2 .left))
 
 pub partner-spec : {M : Type 1} → statement M
 partner-spec =
     tie.close
     (tie.spec
-    decode-requires
-    enum-known-decoded
-    partner-in-requires
-    enum-known-decoded-2
+    valid-requires
     returns
-    returns-2)
+    kind-of-requires
+    enables-kind-requires
+    kind-family-requires
+    partner-in-requires
+    returns-2
+    returns-3)

@@ -1,0 +1,176 @@
+-- The step of an accepted word, under each statement of specs/Execution.antt. Assumes nothing.
+use Prim.Native.Nat.{ℕ, _+_, _-_, _*_, _/_, _%_, _≤_, _<_}
+use native.Mathlib.Nat.{zero-add, zero-mul, mul-comm, mul-assoc, mod-lt}
+use native.Mathlib.Omega.{arith}
+use mathlib.Core.Path.{_≡_, refl, sym, ap, _∙_, subst}
+use mathlib.Core.Logic.{_⊎_, inl, inr}
+use mathlib.Core.List.{List}
+use lib.ListN.{getD}
+use Rattle.settings.specs.Lengths.{VectorLength}
+use Rattle.settings.specs.Valid.{vectorBytes, arrayBytes}
+use Rattle.settings.specs.declared.Settings.{Settings}
+use Rattle.settings.proofs.Lengths.{vector-length, array-length, same-length}
+use Rattle.words.specs.Ranges.{Ranges, OfFamily}
+use Rattle.words.specs.declared.Family.{Family}
+use Rattle.words.specs.declared.Family.the-variants.{ByElement, Vector, Saturating, LongLong, Long}
+use Rattle.words.specs.declared.Fields.{Fields}
+use Rattle.elements.specs.Size.{perHalf, IsLane}
+use Rattle.elements.specs.Elements.{elementOf}
+use Rattle.lanes.specs.Lane.{step}
+use Rattle.bits.proofs.Bits.{toggled-same}
+use Rattle.recipes.specs.Recipe.{Recipe, sizeOf, doubled, eachSegment, halfOf, recipeOf, newLength, perSource}
+use Rattle.recipes.specs.Element.{chosen}
+use Rattle.recipes.proofs.Inside.{bits-of-lane}
+use Rattle.recipes.proofs.Sizes.{half-in-bits, bits-of-doubled, bits-of-quadrupled, in-half, InBits, newOf}
+use Rattle.machine.specs.Step.{register, zAfter, stride, selected, firstVector, zaAfter}
+use Rattle.machine.specs.Execute.{steppedBy, stepped}
+use Rattle.machine.proofs.Grid.{rows-distinct, row-lt}
+use Rattle.machine.proofs.Array.{IntoZa, grid, first-multiple}
+use Rattle.demands.specs.Execution.{VL, Accepted, KeepsIfRefused, SameLengths, StillBytes, CountsToggled, AtMostWritten}
+use Rattle.demands.specs.Execution.{ElementsA, ElementsB, ElementsC, ElementsZa}
+use Rattle.demands.specs.Execution.{zaVector, Among, First, Distinct, Exact}
+use Rattle.demands.proofs.Effects.{z-length, z-bytes, z-few, z-elsewhere, z-element, za-length, za-bytes, za-few, among, named, za-elsewhere, za-element}
+use Rattle.demands.proofs.Outcomes.{accepted-ranges, by-step, stepped-number}
+
+-- ---- the elements that the recipes choose, with 64/lane for the elements of a half
+
+halves : (lane : ℕ) → IsLane lane → perHalf (sizeOf lane) ≡ 64 / lane
+halves lane l = half-in-bits (sizeOf lane) ∙ ap (λ (b : ℕ). 64 / b) (bits-of-lane l)
+
+at-half : (part e lane : ℕ) → IsLane lane → chosen (sizeOf lane) (halfOf part (sizeOf lane)) e ≡ part * (64 / lane) + e
+at-half part e lane l = rw (halves lane l) (omega arith)
+
+at-segment : (index e lane : ℕ) → IsLane lane → chosen (sizeOf lane) (eachSegment 2 index) e ≡ 2 * (e - e % (64 / lane)) + index
+at-segment index e lane l = ap (λ (h : ℕ). 2 * (e - e % h) + index) (halves lane l)
+
+-- ---- an accepted word
+
+module _ (s : Settings) (w : ℕ) (f : Fields) (z za : List ℕ) (a : Accepted s w f z za) where
+  v : VectorLength (vectorBytes s)
+  v = vector-length s (a .valid)
+
+  v-za : VectorLength (arrayBytes s)
+  v-za = array-length s (a .valid)
+
+  g : Ranges f
+  g = accepted-ranges s w z za f a
+
+  -- ---- of every step
+
+  pub step-accepts : KeepsIfRefused z za (stepped s f z za)
+  step-accepts n = absurd (n (stepped-number s f z za))
+
+  pub step-lengths : SameLengths z za (stepped s f z za)
+  step-lengths = by-step s f z za (SameLengths z za) (z-length s v f g z (a .z-exact), refl) (λ i. (refl, za-length s v-za f g i z za (a .za-exact)))
+
+  pub step-bytes : StillBytes z za (stepped s f z za)
+  step-bytes =
+      by-step s f z za (StillBytes z za)
+      (λ b c. (z-bytes s v f g z (a .z-exact) b, c))
+      (λ i b c. (b, za-bytes s v-za f g i z za (a .za-exact) c))
+
+  pub step-toggled : CountsToggled z za (stepped s f z za)
+  step-toggled = by-step s f z za (CountsToggled z za) refl (λ _. refl)
+
+  pub step-few : AtMostWritten z za (stepped s f z za)
+  step-few =
+      by-step s f z za (AtMostWritten z za)
+      (rw (toggled-same za) (omega (arith, z-few s v f g z (a .z-exact))))
+      (λ i.
+      let k : ℕ = perSource (f .family) in
+      let e : f .group * k * (8 * arrayBytes s) ≡ VL s * f .group * k =
+      rw same-length (mul-comm (f .group * k) (VL s) ∙ sym (mul-assoc (VL s) (f .group) k)) in
+      rw (toggled-same z) (omega (arith, za-few s v-za f g i z za (a .za-exact))))
+
+  -- ---- the elements that are new, by the family's recipe
+
+  in-z : (family : Family) → f .family ≡ family → InBits (recipeOf family f 0) (f .lane) (2 * f .lane)
+      → (e : ℕ) → e < 8 * newLength family (vectorBytes s) / (2 * f .lane)
+      → elementOf (2 * f .lane) (register s (zAfter s f z) (f .destination)) e
+      ≡ newOf (recipeOf family f 0) (f .lane) (2 * f .lane) (register s z (f .destination)) (register s z (f .first)) (register s z (f .second)) e
+  in-z family q = rw (← q) (z-element s v f g z (a .z-exact) (f .lane) (2 * f .lane))
+
+  in-za : (family : Family) → f .family ≡ family → IntoZa f → (r i wide : ℕ) → r < f .group → i < perSource family
+      → InBits (recipeOf family f i) (f .lane) wide → (e : ℕ) → e < 8 * arrayBytes s / wide
+      → elementOf wide (zaVector s (zaAfter s f z za) (firstVector s f + r * stride s f + i)) e
+      ≡ newOf (recipeOf family f i) (f .lane) wide (zaVector s za (firstVector s f + r * stride s f + i))
+      (register s z (f .first + r)) (register s z (f .second + r)) e
+  in-za family q into r i wide = rw (← q) (za-element s v-za f g into z za (a .za-exact) r i (f .lane) wide)
+
+  -- lanes, and written elements of double width
+  double : (r : Recipe) → r .lane ≡ sizeOf (f .lane) → r .wide ≡ doubled (sizeOf (f .lane)) → InBits r (f .lane) (2 * f .lane)
+  double r l d = record { lane-bits = rw l (bits-of-lane (g .lane)); wide-bits = rw d (bits-of-doubled (g .lane)) }
+
+  pub elements-a : f .family ≡ ByElement → ElementsA s f z za (steppedBy ByElement s f z za)
+  unfolding step
+  elements-a q e h =
+      in-z ByElement q (double (recipeOf ByElement f 0) refl refl) e (rw (← in-half (g .lane)) h)
+      ∙ rw (at-half (f .part) e (f .lane) (g .lane), zero-mul e, zero-add (f .index))
+
+  pub elements-b : f .family ≡ Vector → ElementsB s f z za (steppedBy Vector s f z za)
+  unfolding step
+  elements-b q e h =
+      in-z Vector q (double (recipeOf Vector f 0) refl refl) e (rw (← in-half (g .lane)) h)
+      ∙ rw (at-half (f .part) e (f .lane) (g .lane))
+
+  pub elements-c : f .family ≡ Saturating → ElementsC s f z za (steppedBy Saturating s f z za)
+  unfolding step
+  elements-c q e h =
+      in-z Saturating q (double (recipeOf Saturating f 0) refl refl) e h
+      ∙ rw (at-segment (f .index) e (f .lane) (g .lane))
+
+  pub elements-d : f .family ≡ LongLong → ElementsZa 4 s f z za (steppedBy LongLong s f z za)
+  unfolding step
+  elements-d q r i e hr hi h =
+      let o : OfFamily LongLong f = subst (λ (x : Family). OfFamily x f) q (g .of-family) in
+      in-za LongLong q (inl q) r i (4 * f .lane) hr hi
+      (record { lane-bits = bits-of-lane (g .lane); wide-bits = bits-of-quadrupled (o .1) }) e (rw same-length h)
+
+  pub elements-e : f .family ≡ Long → ElementsZa 2 s f z za (steppedBy Long s f z za)
+  unfolding step
+  elements-e q r i e hr hi h =
+      in-za Long q (inr q) r i (2 * f .lane) hr hi (double (recipeOf Long f i) refl refl) e (rw same-length h)
+
+  -- ---- what is not new
+
+  pub out-z : (family : Family) → f .family ≡ family → (i : ℕ)
+      → (i < f .destination * vectorBytes s) ⊎ (f .destination * vectorBytes s + newLength family (vectorBytes s) ≤ i)
+      → getD (zAfter s f z) i 0 ≡ getD z i 0
+  out-z family q = rw (← q) (z-elsewhere s v f g z (a .z-exact))
+
+  pub out-za : (family : Family) → f .family ≡ family → IntoZa f → (u : ℕ) → u < arrayBytes s → (Among (perSource family) s f u → ⊥)
+      → zaVector s (zaAfter s f z za) u ≡ zaVector s za u
+  out-za family q into = rw (← q) (za-elsewhere s v-za f g into z za (a .za-exact))
+
+  -- ---- the vectors of ZA that the word writes
+
+  stride-in-bits : stride s f ≡ VL s / 8 / f .group
+  unfolding stride
+  stride-in-bits = ap (λ (x : ℕ). x / f .group) (same-length s ∙ omega arith)
+
+  pub first : IntoZa f → First (perSource (f .family)) s f
+  unfolding firstVector selected
+  first into =
+      let x : ℕ = selected s f in
+      let rows = grid s v-za f g into in
+      let l : x % perSource (f .family) < perSource (f .family) = mod-lt x (rows .some) in
+      record {
+        stride-is = stride-in-bits;
+        multiple = first-multiple s v-za f g into;
+        rounded-down = omega arith;
+        by-less = omega arith;
+        fits = rows .fits;
+      }
+
+  pub distinct : IntoZa f → Distinct (perSource (f .family)) s f
+  distinct into = rows-distinct (grid s v-za f g into)
+
+  pub exact : IntoZa f → Exact (perSource (f .family)) s f
+  exact into =
+      record {
+        there = row-lt (grid s v-za f g into);
+        exactly = λ u h. (
+          among s v-za f g into u h,
+          λ m. rw (m .is) (named s v-za f g into (m .r) (m .i) (m .i-below)),
+        );
+      }

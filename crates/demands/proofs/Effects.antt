@@ -1,0 +1,179 @@
+-- What a step leaves in Z and in ZA: each written element, everything else, lengths, bytes and the bits that change. Assumes nothing.
+use Prim.Native.Nat.{ℕ, _+_, _-_, _*_, _/_, _%_, _≤_, _<_}
+use native.Mathlib.Omega.{arith}
+use mathlib.Core.Path.{_≡_, refl, sym, ap, _∙_}
+use mathlib.Core.Logic.{_⊎_, inl, inr, _≢_}
+use mathlib.Core.Bool.{true, cond}
+use mathlib.Core.List.{List, _++_}
+use lib.Dec.{eqb}
+use lib.ListN.{length, getD, drop}
+use lib.Seq.{take-at}
+use lib.Bits.{differ}
+use borrow.Author.Tests.{eq-eqb, ne-eqb}
+use Rattle.laws.proofs.Tests.{failed}
+use Rattle.settings.specs.Lengths.{VectorLength}
+use Rattle.settings.specs.Valid.{vectorBytes, arrayBytes}
+use Rattle.settings.specs.declared.Settings.{Settings}
+use Rattle.words.specs.Ranges.{Ranges}
+use Rattle.words.specs.declared.Fields.{Fields}
+use Rattle.elements.specs.Size.{bytesOf}
+use Rattle.elements.specs.Elements.{element, elementOf}
+use Rattle.elements.proofs.Elements.{Bytes, elementAt-take, Bytes-splice}
+use Rattle.elements.proofs.Vectors.{within}
+use Rattle.elements.proofs.Files.{next, room, length-splice, splice-before, splice-after}
+use Rattle.elements.proofs.Files.{vectorAt-renewed, length-replaced, Bytes-replaced}
+use Rattle.bits.specs.Bits.{toggled}
+use Rattle.bits.proofs.Bits.{differ-unmoved, differ-once, bytes-splice-le}
+use Rattle.bits.proofs.Files.{bytes-replaced-le}
+use Rattle.recipes.specs.Recipe.{Recipe, recipeOf, newLength, perSource}
+use Rattle.recipes.specs.Element.{newBytes}
+use Rattle.recipes.proofs.Built.{whole-elements, length-newBytes, Bytes-newBytes}
+use Rattle.machine.specs.Step.{register, newRegister, zAfter, stride, firstVector, writesVector, newVector, zaAfter}
+use Rattle.machine.specs.Loop.{place, fresh}
+use Rattle.machine.proofs.Grid.{row-of, within-row, row-lt, Written, by-row, place-distinct}
+use Rattle.machine.proofs.Array.{IntoZa, grid, tested, passes, placed, array-is}
+use Rattle.machine.proofs.Registers.{new-length, long-x, long-register, register-is}
+use Rattle.recipes.proofs.Sizes.{InBits, newOf, bytes-of-wide, counted-in-bits, element-in-bits}
+use Rattle.demands.specs.Execution.{zaVector, Among}
+
+-- ---- Z
+
+module _ (s : Settings) (v : VectorLength (vectorBytes s)) (f : Fields) (g : Ranges f) (z : List ℕ) (z-long : length z ≡ 32 * vectorBytes s) where
+  abbrev w : ℕ
+  w = vectorBytes s
+
+  abbrev n : ℕ
+  n = newLength (f .family) w
+
+  abbrev x : List ℕ
+  x = newBytes (recipeOf (f .family) f 0) n (register s z (f .destination)) (register s z (f .first)) (register s z (f .second))
+
+  abbrev at : ℕ
+  at = f .destination * w
+
+  long : length x ≡ n
+  long = long-x s v f g z z-long
+
+  fit : at + length x ≤ length z
+  fit = omega (arith, long, new-length (f .family) w v .1, next (f .destination) w, room (f .destination) 32 w z z-long (g .destination))
+
+  pub z-length : length (zAfter s f z) ≡ length z
+  z-length = rw (← register-is s v f g z z-long) (length-splice at x z fit)
+
+  pub z-bytes : Bytes z → Bytes (zAfter s f z)
+  z-bytes b = rw (← register-is s v f g z z-long) (Bytes-splice at x z (Bytes-newBytes (recipeOf (f .family) f 0) n _ _ _) b)
+
+  pub z-few : toggled z (zAfter s f z) ≤ 8 * newLength (f .family) (vectorBytes s)
+  z-few = rw (← register-is s v f g z z-long) (omega (arith, long, bytes-splice-le differ differ-once differ-unmoved at x z fit))
+
+  -- the bytes outside the new ones
+  pub z-elsewhere : (i : ℕ) → (i < f .destination * vectorBytes s) ⊎ (f .destination * vectorBytes s + newLength (f .family) (vectorBytes s) ≤ i)
+      → getD (zAfter s f z) i 0 ≡ getD z i 0
+  z-elsewhere i (inl h) = rw (← register-is s v f g z z-long) (splice-before at x z fit i h)
+  z-elsewhere i (inr h) = rw (← register-is s v f g z z-long) (splice-after at x z fit i (omega (arith, long)))
+
+  -- register by register: the destination is new, and every other as it was
+  each-z : (r : ℕ) → r < 32 → register s (zAfter s f z) r ≡ cond (eqb r (f .destination)) (newRegister s f z) (register s z r)
+  unfolding zAfter
+  each-z r h =
+      vectorAt-renewed (λ r. eqb r (f .destination)) (λ r. newRegister s f z) w 32 z z-long (λ r h e. long-register s v f g z z-long) r h
+
+  pub z-new : register s (zAfter s f z) (f .destination) ≡ newRegister s f z
+  z-new = each-z (f .destination) (g .destination) ∙ rw (eq-eqb (f .destination) (f .destination) refl)
+
+  pub z-same : (r : ℕ) → r < 32 → f .destination ≢ r → register s (zAfter s f z) r ≡ register s z r
+  z-same r h apart = each-z r h ∙ rw (ne-eqb r (f .destination) (λ e. apart (sym e)))
+
+  -- an element of the destination
+  whole-element : (k e : ℕ) → e * k + k ≤ n → element k (register s (zAfter s f z) (f .destination)) e ≡ element k x e
+  unfolding newRegister
+  whole-element k e h =
+      let rest : List ℕ = drop n (register s z (f .destination)) in
+      ap (λ (l : List ℕ). element k l e) z-new
+      ∙ sym (elementAt-take k (e * k) n (x ++ rest) h)
+      ∙ ap (λ (l : List ℕ). element k l e) (take-at x rest n long)
+
+  pub z-element : (lane wide : ℕ) → InBits (recipeOf (f .family) f 0) lane wide → (e : ℕ) → e < 8 * newLength (f .family) (vectorBytes s) / wide
+      → elementOf wide (register s (zAfter s f z) (f .destination)) e
+      ≡ newOf (recipeOf (f .family) f 0) lane wide (register s z (f .destination)) (register s z (f .first)) (register s z (f .second)) e
+  z-element lane wide b e h =
+      let r : Recipe = recipeOf (f .family) f 0 in
+      let q : e < n / bytesOf (r .wide) = rw (← counted-in-bits r lane wide b n) h in
+      let l : e * bytesOf (r .wide) + bytesOf (r .wide) ≤ n =
+      omega (arith, within e (n / bytesOf (r .wide)) (bytesOf (r .wide)) q, whole-elements n (new-length (f .family) w v .0) (r .wide)) in
+      whole-element (wide / 8) e (rw (← bytes-of-wide r lane wide b) l) ∙ element-in-bits r lane wide b n _ _ _ e h
+
+-- ---- ZA
+
+module _ (s : Settings) (v : VectorLength (arrayBytes s)) (f : Fields) (g : Ranges f) (into : IntoZa f) where
+  -- the vectors that are written, by r and i
+  pub among : (u : ℕ) → u < arrayBytes s → writesVector s f u ≡ true → Among (perSource (f .family)) s f u
+  among u h e =
+      let b = by-row (grid s v f g into) u h (tested s v f g into u e) in
+      record { r = u / stride s f; i = u % stride s f - firstVector s f; r-below = b .0; i-below = b .1; is = sym (b .2) }
+
+  pub named : (r i : ℕ) → i < perSource (f .family) → writesVector s f (firstVector s f + r * stride s f + i) ≡ true
+  unfolding Written
+  named r i h =
+      let q = within-row (grid s v f g into) r i h in
+      passes s v f g into (firstVector s f + r * stride s f + i) (omega (arith, q), omega (arith, q))
+
+module _ (s : Settings) (v : VectorLength (arrayBytes s)) (f : Fields) (g : Ranges f) (into : IntoZa f) (z za : List ℕ)
+    (long : length za ≡ arrayBytes s * arrayBytes s) where
+  abbrev k : ℕ
+  k = perSource (f .family)
+
+  abbrev at-za : ℕ → ℕ
+  at-za = place (firstVector s f) (stride s f) k
+
+  abbrev new-za : ℕ → List ℕ
+  new-za = fresh f (arrayBytes s) (firstVector s f) (stride s f) k z za
+
+  pub za-length : length (zaAfter s f z za) ≡ length za
+  za-length =
+      rw (← array-is s v f g into z za long)
+      (length-replaced at-za new-za (arrayBytes s) (arrayBytes s) za (f .group * k) (placed s v f g into z za long))
+
+  pub za-bytes : Bytes za → Bytes (zaAfter s f z za)
+  unfolding fresh
+  za-bytes b =
+      rw (← array-is s v f g into z za long)
+      (Bytes-replaced at-za new-za (arrayBytes s) (arrayBytes s) za (f .group * k) (λ q h. Bytes-newBytes _ (arrayBytes s) _ _ _) b)
+
+  pub za-few : toggled za (zaAfter s f z za) ≤ f .group * perSource (f .family) * (8 * arrayBytes s)
+  za-few =
+      rw (← array-is s v f g into z za long)
+      (bytes-replaced-le differ differ-unmoved at-za new-za (arrayBytes s) (arrayBytes s) za differ-once (f .group * k)
+      (placed s v f g into z za long) (place-distinct (grid s v f g into)))
+
+  -- vector by vector
+  pub each-za : (u : ℕ) → u < arrayBytes s
+      → zaVector s (zaAfter s f z za) u
+      ≡ cond (writesVector s f u) (newVector s f z (u / stride s f) (u % stride s f - firstVector s f) (zaVector s za u)) (zaVector s za u)
+  unfolding zaAfter newVector
+  each-za u h =
+      vectorAt-renewed (writesVector s f) (λ u. newVector s f z (u / stride s f) (u % stride s f - firstVector s f) (zaVector s za u))
+      (arrayBytes s) (arrayBytes s) za long
+      (λ u q e. length-newBytes _ (arrayBytes s) _ _ _ (omega (arith, v .whole))) u h
+
+  pub za-elsewhere : (u : ℕ) → u < arrayBytes s → (Among (perSource (f .family)) s f u → ⊥) → zaVector s (zaAfter s f z za) u ≡ zaVector s za u
+  za-elsewhere u h out = each-za u h ∙ rw (failed (writesVector s f u) (λ e. out (among s v f g into u h e)))
+
+  pub za-vector : (r i : ℕ) → r < f .group → i < perSource (f .family)
+      → zaVector s (zaAfter s f z za) (firstVector s f + r * stride s f + i)
+      ≡ newVector s f z r i (zaVector s za (firstVector s f + r * stride s f + i))
+  za-vector r i hr hi =
+      let u : ℕ = firstVector s f + r * stride s f + i in
+      let a : u / stride s f ≡ r = row-of (grid s v f g into) r i hi in
+      let b : u % stride s f - firstVector s f ≡ i = omega (arith, within-row (grid s v f g into) r i hi) in
+      each-za u (row-lt (grid s v f g into) r i hr hi) ∙ rw (named s v f g into r i hi, a, b)
+
+  pub za-element : (r i lane wide : ℕ) → r < f .group → i < perSource (f .family) → InBits (recipeOf (f .family) f i) lane wide
+      → (e : ℕ) → e < 8 * arrayBytes s / wide
+      → elementOf wide (zaVector s (zaAfter s f z za) (firstVector s f + r * stride s f + i)) e
+      ≡ newOf (recipeOf (f .family) f i) lane wide (zaVector s za (firstVector s f + r * stride s f + i))
+      (register s z (f .first + r)) (register s z (f .second + r)) e
+  unfolding newVector
+  za-element r i lane wide hr hi b e h =
+      ap (λ (l : List ℕ). elementOf wide l e) (za-vector r i hr hi)
+      ∙ element-in-bits (recipeOf (f .family) f i) lane wide b (arrayBytes s) _ _ _ e h

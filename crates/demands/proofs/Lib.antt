@@ -1,0 +1,11 @@
+pub mod Effects
+pub mod Outcomes
+pub mod Accepted
+pub mod Execution
+pub mod Undoing
+pub mod Sweep
+pub mod SweepExamples
+pub mod Calls
+pub mod Reading
+pub mod Lists
+pub mod Written

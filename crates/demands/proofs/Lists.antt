@@ -1,0 +1,137 @@
+-- The statements of specs/Lists.antt, proved. Assumes nothing.
+use Prim.Native.Nat.{ℕ, _+_, _≤_, _<_}
+use native.Mathlib.Omega.{arith}
+use native.Mathlib.Nat.{min-le-left}
+use native.Mathlib.Decide.{decLe}
+use mathlib.Core.Path.{_≡_, refl, sym, ap, _∙_, subst}
+use mathlib.Core.Logic.{_≢_}
+use mathlib.Core.List.{List, [], _∷_, _++_}
+use lib.ListN.{length, take, drop, length-append, length-take, length-drop, take-append-drop}
+use lib.Seq.{length-take-le, take-all}
+use borrow.Author.Tests.{ne-eqb}
+use Rattle.settings.specs.declared.Refusal.{Refusal}
+use Rattle.settings.specs.declared.Refusal.the-variants.{ExtraBytes}
+use Rattle.settings.specs.declared.Settings.{Settings}
+use Rattle.numbers.proofs.Places.{number-kept}
+use Rattle.numbers.proofs.Rows.{row-kept}
+use Rattle.runlist.specs.Plan.{Found, found, refused, Asked, mostWords, endedAt, wordsFrom, asking, settledFrom, headed, planOf}
+use Rattle.runlist.specs.RunList.{carriedOut, runPaper}
+use Rattle.runlist.proofs.Plans.{words-counted, z-read}
+use Rattle.demands.specs.Lists.{longest, AtMostLongest, OnlyWhole, FirstBytesDecide, EnoughBytes, RunOfEnough, LengthsHold, RefusedKeeps, PlaceInside, PlaceNear, RunSmall, OfList, RefusedWith}
+use Rattle.demands.proofs.Reading.{Worded, Made, made, Refusing, by-cause, far}
+
+-- ---- how long a list can be
+
+not-found : {A : Type 0} (a : A) (x : Found A) (p : ℕ) → x ≡ found a → x ≡ refused ExtraBytes p → ⊥
+not-found a x p e f = let z : _≡_ {A = ℕ} 0 1 = cc in omega arith
+
+some-bytes : (t : List ℕ) → t ≢ [] → 0 < length t
+some-bytes [] h = absurd (h refl)
+some-bytes (b ∷ t) h = omega arith
+
+module _ (list t : List ℕ) (h : t ≢ []) where
+  words-more : (room at : ℕ) (ws : List ℕ) → Worded list room at ws → wordsFrom (list ++ t) room at ≡ refused ExtraBytes (length list)
+  words-more room at ws w =
+      sym (words-counted (list ++ t) room at (length ws) (w .from) (number-kept list t at (length ws) (w .from) (w .count)) (w .few) (w .reported))
+      ∙ ap (endedAt (list ++ t)) (row-kept list t (w .from) (length ws) ws (length list) (w .row))
+      ∙ simp (ne-eqb (length list) (length (list ++ t)) (λ (q : length list ≡ length (list ++ t)). omega (arith, length-append list t, some-bytes t h)))
+
+  made-more : (z za room : ℕ) (a : Asked) → Made list z za room a → planOf (list ++ t) z za room ≡ refused ExtraBytes (length list)
+  unfolding planOf
+  made-more z za room a m =
+      ap (headed (list ++ t) z za room) (row-kept list t 0 7 (m .head) (m .at) (m .header))
+      ∙ ap (λ (s : Settings). settledFrom (list ++ t) z za room s (m .at)) (sym (m .settings-are))
+      ∙ sym (z-read (list ++ t) z za room (a .settings) (m .at) (m .valid) (m .exact) (omega (arith, m .there, length-append list t)))
+      ∙ ap (asking (a .settings) (take z (drop (m .at) (list ++ t)))) (words-more room (m .at + z) (a .words) (m .words-are))
+
+pub only-whole : OnlyWhole
+only-whole list z za room a e t h = made-more list t h z za room a (made list z za room a e)
+
+pub first-bytes-decide : FirstBytesDecide
+first-bytes-decide list t z za room h = far list t z za room h
+
+-- a longer list would stay accepted with a byte after it
+pub at-most-longest : AtMostLongest
+at-most-longest list z za room a e =
+    elim (decLe (length list) longest) [
+      | yes y ↦ y
+      | no n ↦
+          let whole = only-whole list z za room a e (0 ∷ []) (λ (f : 0 ∷ [] ≡ []). let z : _≡_ {A = ℕ} 0 1 = cc in omega arith) in
+          absurd (not-found a (planOf (list ++ 0 ∷ []) z za room) (length list) (first-bytes-decide list (0 ∷ []) z za room (omega arith) ∙ e) whole)
+    ]
+
+pub enough-bytes : EnoughBytes
+enough-bytes k h list z za room =
+    elim (decLe (length list) k) [
+      | yes y ↦ ap (λ (l : List ℕ). planOf l z za room) (take-all k list y)
+      | no n ↦
+          let long : length (take k list) ≡ k = length-take-le k list (omega arith) in
+          sym (first-bytes-decide (take k list) (drop k list) z za room (omega arith)) ∙ ap (λ (l : List ℕ). planOf l z za room) (take-append-drop k list)
+    ]
+
+pub run-of-enough : RunOfEnough
+unfolding runPaper
+run-of-enough k h list z za report = ap (λ (x : Found Asked). carriedOut x z za report) (enough-bytes k h list (length z) (length za) (length report))
+
+-- ---- what holds of an accepted list
+
+pub lengths-hold : LengthsHold
+lengths-hold list z za room a e =
+    let m = made list z za room a e in
+    record {
+      valid = m .valid;
+      exact = m .exact;
+      z-bytes = ap length (m .z-are) ∙ length-take-le z (drop (m .at) list) (omega (arith, m .there, length-drop (m .at) list));
+      few = m .words-are .few;
+      reported = m .words-are .reported;
+    }
+
+-- ---- what holds of a refused list
+
+kept : (x : Found Asked) (z za report : List ℕ) → carriedOut x z za report .number ≢ 0
+    → (carriedOut x z za report .z ≡ z) × (carriedOut x z za report .za ≡ za) × (carriedOut x z za report .report ≡ report)
+kept (found a) z za report h = absurd (h refl)
+kept (refused r p) z za report h = (refl, refl, refl)
+
+pub refused-keeps : RefusedKeeps
+unfolding runPaper
+refused-keeps list z za report = kept (planOf list (length z) (length za) (length report)) z za report
+
+-- the place is in the list or at its end, and the refusal is one of a list's
+abbrev Told : ℕ → Refusal → ℕ → Type 0
+Told size r p = (p ≤ size) × OfList r p
+
+told : (list : List ℕ) (z za room : ℕ) → Refusing (Told (length list)) (planOf list z za room)
+told list z za room =
+    by-cause list z za room (Told (length list))
+    (record {
+      ends = λ p h. (h, tt);
+      bad = λ p h. (h, tt);
+      settings = (omega arith, refl);
+      lengths = λ head at e v l. (omega arith, refl);
+      report = λ n h k. (omega arith, refl);
+      many = λ p h. (h, tt);
+      extra = λ p h. (h, tt);
+    })
+
+pub place-inside : PlaceInside
+place-inside list z za room r p e = subst (Refusing (Told (length list))) e (told list z za room) .0
+
+pub place-near : PlaceNear
+place-near list z za room r p e =
+    let k : ℕ = longest + 1 in
+    let inside : p ≤ length (take k list) = place-inside (take k list) z za room r p (enough-bytes k (omega arith) list z za room ∙ e) in
+    omega (arith, inside, length-take k list, min-le-left k (length list))
+
+-- what was found is at most as many words as a list may have, and what was refused has its place near
+small : (list : List ℕ) (z za report : List ℕ) (x : Found Asked) → planOf list (length z) (length za) (length report) ≡ x
+    → (carriedOut x z za report .place ≤ longest + 1) × (carriedOut x z za report .words ≤ mostWords)
+small list z za report (found a) e = (omega arith, lengths-hold list (length z) (length za) (length report) a e .few)
+small list z za report (refused r p) e = (place-near list (length z) (length za) (length report) r p e, omega arith)
+
+pub run-small : RunSmall
+unfolding runPaper
+run-small list z za report = small list z za report (planOf list (length z) (length za) (length report)) refl
+
+pub refused-with : RefusedWith
+refused-with list z za room r p e = subst (Refusing (Told (length list))) e (told list z za room) .1

@@ -1,0 +1,121 @@
+-- Which words execute accepts, how it refuses the others, and what then holds of every outcome. Assumes nothing.
+use Prim.Native.Nat.{ℕ, _*_, _<_}
+use native.Mathlib.Omega.{arith}
+use mathlib.Core.Path.{_≡_, refl, sym, ap, _∙_, subst}
+use mathlib.Core.Logic.{_⊎_, inl, inr, ⊎-elim, _≢_}
+use mathlib.Core.Bool.{Bool, true, false}
+use mathlib.Core.List.{List}
+use lib.ListN.{length}
+use Rattle.laws.proofs.Tests.{failed, cond-holds}
+use Rattle.settings.specs.Valid.{validSettings, vectorBytes, arrayBytes}
+use Rattle.settings.specs.declared.Settings.{Settings}
+use Rattle.words.specs.Says.{Described, As, Nothing, describe}
+use Rattle.words.specs.Decode.{enables, noFields, enabledOnly, decodeEnabled}
+use Rattle.words.specs.Ranges.{Ranges}
+use Rattle.words.specs.declared.Family.{Family}
+use Rattle.words.specs.declared.Fields.{Fields}
+use Rattle.machine.specs.Modes.{permits}
+use Rattle.machine.specs.Execute.{Outcome, refusedWith, steppedBy, stepped, rightLengths, executePaper}
+use Rattle.machine.specs.Loop.{IntoZa, Ready}
+use Rattle.machine.proofs.Stepping.{which-file, steppedZ, steppedZa, stepped-z, stepped-za}
+use Rattle.machine.proofs.Executing.{word-ranges, not-valid, not-long, lengths-right, is-ready, not-decoded, is-decoded, not-permitted, is-permitted}
+use Rattle.demands.specs.Execution.{Accepted, RefusedInOrder}
+
+-- decoding gives 0 or 3
+enabled-number : (features : ℕ) (d : Described) → (enabledOnly features d .0 ≡ 0) ⊎ (enabledOnly features d .0 ≡ 3)
+enabled-number features (As f) =
+    cond-holds (λ (p : ℕ × Fields). (p .0 ≡ 0) ⊎ (p .0 ≡ 3)) (enables features f) (0, f) (3, noFields) (λ _. inl refl) (λ _. inr refl)
+enabled-number features Nothing = inr refl
+
+decoded-number : (features w : ℕ) → (decodeEnabled features w .0 ≡ 0) ⊎ (decodeEnabled features w .0 ≡ 3)
+unfolding decodeEnabled
+decoded-number features w = enabled-number features (describe w)
+
+module _ (s : Settings) (w : ℕ) (z za : List ℕ) where
+  lengths-wrong : validSettings s ≡ true → (length z ≢ 32 * vectorBytes s) ⊎ (length za ≢ arrayBytes s * arrayBytes s) → rightLengths s (length z) (length za) ≡ false
+  lengths-wrong v (inl n) = failed (rightLengths s (length z) (length za)) (λ e. n (is-ready s z za v e .z-long))
+  lengths-wrong v (inr n) = failed (rightLengths s (length z) (length za)) (λ e. n (is-ready s z za v e .za-long))
+
+  -- ---- the refusals, one test after the other
+
+  refused-1 : validSettings s ≡ false → executePaper s w z za ≡ refusedWith 1 z za
+  refused-1 v = sym (not-valid s z za w v)
+
+  refused-2 : validSettings s ≡ true → rightLengths s (length z) (length za) ≡ false → executePaper s w z za ≡ refusedWith 2 z za
+  refused-2 v l = sym (not-long s z za w v l)
+
+  refused-3 : validSettings s ≡ true → rightLengths s (length z) (length za) ≡ true → (n : ℕ) → decodeEnabled (s .features .0) w .0 ≡ n → n ≢ 0
+      → executePaper s w z za ≡ refusedWith n z za
+  refused-3 v l n d h = sym (not-decoded s z za w n (is-ready s z za v l) d h)
+
+  refused-4 : validSettings s ≡ true → rightLengths s (length z) (length za) ≡ true → (f : Fields) → decodeEnabled (s .features .0) w ≡ (0, f)
+      → permits (s .features .0) (s .modes .0) (f .family) ≡ false → executePaper s w z za ≡ refusedWith 4 z za
+  refused-4 v l f d p = sym (not-permitted s z za f p ∙ is-decoded s z za w f (is-ready s z za v l) d)
+
+  -- and what is done where none is due
+  pub accepted : (f : Fields) → Accepted s w f z za → executePaper s w z za ≡ stepped s f z za
+  accepted f a =
+      let ready : Ready s z za = record { valid = a .valid; z-long = a .z-exact; za-long = a .za-exact } in
+      sym (is-permitted s z za f (a .permitted) ∙ is-decoded s z za w f ready (a .decodes))
+
+  pub in-order : RefusedInOrder s w z za
+  in-order =
+      record {
+        by-settings = refused-1;
+        by-lengths = λ v l. refused-2 v (lengths-wrong v l);
+        by-word = λ v p q n d h. (refused-3 v (lengths-right s z za p q) n d h, three n d h);
+        by-mode = λ v p q. refused-4 v (lengths-right s z za p q);
+      }
+    where
+      three : (n : ℕ) → decodeEnabled (s .features .0) w .0 ≡ n → n ≢ 0 → n ≡ 3
+      three n d h = ⊎-elim (λ e. absurd (h (sym d ∙ e))) (λ e. sym d ∙ e) (decoded-number (s .features .0) w)
+
+  -- ---- a word is refused or accepted
+
+  abbrev pub IsRefused : Type 0
+  IsRefused = (n : ℕ) × ((n ≢ 0) × (executePaper s w z za ≡ refusedWith n z za))
+
+  not-0 : (n : ℕ) → 0 < n → n ≢ 0
+  not-0 n h e = omega arith
+
+  at-word : (f : Fields) → validSettings s ≡ true → rightLengths s (length z) (length za) ≡ true → decodeEnabled (s .features .0) w ≡ (0, f)
+      → (p : Bool) → permits (s .features .0) (s .modes .0) (f .family) ≡ p → IsRefused ⊎ ((f : Fields) × Accepted s w f z za)
+  at-word f v l d true p =
+      let e = is-ready s z za v l in
+      inr (f, record { valid = v; z-exact = e .z-long; za-exact = e .za-long; decodes = d; permitted = p })
+  at-word f v l d false p = inl (4, (not-0 4 (omega arith), refused-4 v l f d p))
+
+  at-lengths : validSettings s ≡ true → (l : Bool) → rightLengths s (length z) (length za) ≡ l → IsRefused ⊎ ((f : Fields) × Accepted s w f z za)
+  at-lengths v false l = inl (2, (not-0 2 (omega arith), refused-2 v l))
+  at-lengths v true l =
+      let d : ℕ × Fields = decodeEnabled (s .features .0) w in
+      ⊎-elim
+      (λ (e : d .0 ≡ 0). at-word (d .1) v l (ap (λ (n : ℕ). (n, d .1)) e) (permits (s .features .0) (s .modes .0) (d .1 .family)) refl)
+      (λ (e : d .0 ≡ 3). inl (3, (not-0 3 (omega arith), refused-3 v l 3 e (not-0 3 (omega arith)))))
+      (decoded-number (s .features .0) w)
+
+  at-settings : (v : Bool) → validSettings s ≡ v → IsRefused ⊎ ((f : Fields) × Accepted s w f z za)
+  at-settings false v = inl (1, (not-0 1 (omega arith), refused-1 v))
+  at-settings true v = at-lengths v (rightLengths s (length z) (length za)) refl
+
+  pub refused-or-accepted : IsRefused ⊎ ((f : Fields) × Accepted s w f z za)
+  refused-or-accepted = at-settings (validSettings s) refl
+
+  -- the fields of an accepted word are in range
+  pub accepted-ranges : (f : Fields) → Accepted s w f z za → Ranges f
+  accepted-ranges f a = word-ranges s w f (a .valid) (a .decodes)
+
+-- ---- the outcome of a step, family by family
+
+module _ (s : Settings) (f : Fields) (z za : List ℕ) where
+  pub stepped-as : (family : Family) → f .family ≡ family → stepped s f z za ≡ steppedBy family s f z za
+  unfolding stepped
+  stepped-as family e = ap (λ (x : Family). steppedBy x s f z za) e
+
+  -- what holds of a step into Z and of one into ZA holds of every step
+  pub by-step : (P : Outcome → Type 0) → P (steppedZ s f z za) → (IntoZa f → P (steppedZa s f z za)) → P (stepped s f z za)
+  by-step P a b =
+      ⊎-elim (λ i. subst P (sym (stepped-z s f z za i)) a) (λ i. subst P (sym (stepped-za s f z za i)) (b i)) (which-file f)
+
+  pub stepped-number : stepped s f z za .number ≡ 0
+  stepped-number = by-step (λ o. o .number ≡ 0) refl (λ _. refl)

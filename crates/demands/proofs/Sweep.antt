@@ -1,0 +1,129 @@
+-- Demand 3: a run of words is undone by their partners in reverse order. Assumes nothing.
+use Prim.Native.Nat.{ℕ}
+use mathlib.Core.Path.{_≡_, refl, sym, ap, _∙_, subst}
+use mathlib.Core.Bool.{Bool, false, cond}
+use mathlib.Core.Logic.{_≢_}
+use mathlib.Core.List.{List, [], _∷_, map, reverse, reverseAux}
+use lib.Dec.{eqb}
+use borrow.Author.Tests.{eqb-true, eq-eqb, ne-eqb}
+use Rattle.laws.proofs.Tests.{never-both, cond-holds}
+use Rattle.settings.specs.declared.Settings.{Settings}
+use Rattle.words.specs.Decode.{decodePaper}
+use Rattle.words.specs.Partner.{partnerWord, turned, isC, partnerPaper}
+use Rattle.words.specs.declared.Fields.{Fields}
+use Rattle.words.proofs.Answers.{not-c, partner-accepted, PartnerOf}
+use Rattle.elements.specs.Elements.{Bytes}
+use Rattle.machine.specs.Execute.{Outcome, refusedWith, stepped, executePaper}
+use Rattle.machine.specs.Run.{Report, reportOf, Run, PerWord, reportFirst, runOf}
+use Rattle.demands.specs.Execution.{Accepted}
+use Rattle.demands.specs.Sweep.{there, undoPaper}
+use Rattle.demands.specs.Sweep.{AcceptedInTurn, EveryWord, NotSaturating, SourcesApart, NotItsOwnSource, acceptedWith, SweepCloses}
+use Rattle.demands.specs.Sweep.{BothAccept, UndoAccepts, PartnersAccepted}
+use Rattle.demands.proofs.Execution.{accepted-exactly, accepted-steps, lengths-kept, bytes-kept}
+use Rattle.demands.proofs.Undoing.{undoneFrom, step-back}
+
+-- ---- a step of the way back, by the answer of `partner`
+
+module _ (s : Settings) (w : ℕ) (z za : List ℕ) where
+  pub undo-word : (v : ℕ) → (0, v) ≡ partnerPaper s w → executePaper s v z za ≡ undoPaper s w z za
+  unfolding undoPaper
+  undo-word v e = ap (λ (p : ℕ × ℕ). cond (eqb (p .0) 0) (executePaper s (p .1) z za) (refusedWith (p .0) z za)) e
+
+  pub undo-refused : (n : ℕ) → (n, 0) ≡ partnerPaper s w → n ≢ 0 → refusedWith n z za ≡ undoPaper s w z za
+  unfolding undoPaper
+  undo-refused n e h =
+      ap (λ (t : Bool). cond t (executePaper s 0 z za) (refusedWith n z za)) (sym (ne-eqb n 0 h))
+      ∙ ap (λ (p : ℕ × ℕ). cond (eqb (p .0) 0) (executePaper s (p .1) z za) (refusedWith (p .0) z za)) e
+
+-- ---- one word
+
+module _ (s : Settings) (w : ℕ) (z za : List ℕ) where
+  abbrev o : Outcome
+  o = executePaper s w z za
+
+  -- decode accepts what execute accepts
+  decoded : (f : Fields) → Accepted s w f z za → decodePaper s w ≡ (0, f)
+  unfolding decodePaper
+  decoded f a = rw (a .valid, a .decodes)
+
+  -- the partner is accepted where the word left Z and ZA
+  partner-in-turn : (f : Fields) → Accepted s w f z za → PartnerOf s w (partnerWord w) f → Accepted s (partnerWord w) (turned f) (executePaper s w z za .z) (executePaper s w z za .za)
+  unfolding turned decodePaper
+  partner-in-turn f a p =
+      let l = lengths-kept s w z za in
+      record {
+        valid = a .valid;
+        z-exact = l .0 ∙ a .z-exact;
+        za-exact = l .1 ∙ a .za-exact;
+        decodes = rw (a .valid) at (p .decodes);
+        permitted = a .permitted;
+      }
+
+  -- the step back finds what the word left
+  undone : (f : Fields) → Accepted s w f z za → Bytes z → Bytes za → isC (f .family) ≡ false → SourcesApart (f .family) f
+      → undoPaper s w (executePaper s w z za .z) (executePaper s w z za .za) ≡ undoneFrom (executePaper s w z za) z za
+  unfolding undoPaper
+  undone f a bz bza c p =
+      let q = partner-accepted s w f (decoded f a) c in
+      rw (q .0)
+      (accepted-steps s (partnerWord w) (turned f) (o .z) (o .za) (partner-in-turn f a (q .1))
+      ∙ subst (λ (x : Outcome). stepped s (turned f) (x .z) (x .za) ≡ undoneFrom x z za) (sym (accepted-steps s w f z za a)) (step-back s w f z za a bz bza c p))
+
+  pub word-undone : Bytes z → Bytes za → executePaper s w z za .number ≡ 0 → NotSaturating s w → NotItsOwnSource s w
+      → undoPaper s w (executePaper s w z za .z) (executePaper s w z za .za) ≡ undoneFrom (executePaper s w z za) z za
+  word-undone bz bza n c p =
+      let (f, a) = accepted-exactly s w z za .0 n in
+      undone f a bz bza (not-c (f .family) .0 (c f (decoded f a))) (p f (decoded f a))
+
+-- ---- the run
+
+-- the way back over the words so far, `acc`, goes on from where the words that are left begin
+way-back : (s : Settings) (ws acc z za z₀ za₀ : List ℕ) (before : List Report) → Bytes z → Bytes za
+    → AcceptedInTurn (executePaper s) ws z za → EveryWord (NotSaturating s) ws → EveryWord (NotItsOwnSource s) ws
+    → runOf (undoPaper s) acc z za ≡ record { z = z₀; za = za₀; reports = before }
+    → runOf (undoPaper s) (reverseAux ws acc) (there s ws z za .z) (there s ws z za .za)
+    ≡ record { z = z₀; za = za₀; reports = reverseAux (map acceptedWith (there s ws z za .reports)) before }
+unfolding runOf
+way-back s [] acc z za z₀ za₀ before bz bza a c p e = e
+way-back s (w ∷ ws) acc z za z₀ za₀ before bz bza a c p e =
+    let o : Outcome = executePaper s w z za in
+    let b = bytes-kept s w z za bz bza in
+    way-back s ws (w ∷ acc) (o .z) (o .za) z₀ za₀ (acceptedWith (reportOf o) ∷ before) (b .0) (b .1) (a .1) (c .1) (p .1)
+    (ap (λ (u : Outcome). reportFirst u (runOf (undoPaper s) acc (u .z) (u .za))) (word-undone s w z za bz bza (a .0) (c .0) (p .0))
+    ∙ ap (reportFirst (undoneFrom o z za)) e)
+
+pub sweep-closes : SweepCloses
+unfolding runOf
+sweep-closes s ws z za bz bza a c p = way-back s ws [] z za z za [] bz bza a c p refl
+
+-- ---- the partners
+
+pub undo-accepts : UndoAccepts
+unfolding undoPaper
+undo-accepts s w z za =
+    let n : ℕ = partnerPaper s w .0 in
+    let o : Outcome = executePaper s (partnerPaper s w .1) z za in (
+      cond-holds (λ (u : Outcome). u .number ≡ 0 → BothAccept s w z za) (eqb n 0) o (refusedWith n z za)
+          (λ t e. (eqb-true n 0 t, e))
+          (λ t e. absurd (never-both (eqb n 0) (eq-eqb n 0 e) t)),
+      λ b. ap (λ (t : Bool). cond t o (refusedWith n z za) .number) (eq-eqb n 0 (b .0)) ∙ b .1,
+    )
+
+-- each report has the number 0
+abbrev Zeros : List Report → Type 0
+Zeros [] = Unit {0}
+Zeros (r ∷ rs) = (r .0 ≡ 0) × Zeros rs
+
+zeros-back : (rs before : List Report) → Zeros before → Zeros (reverseAux (map acceptedWith rs) before)
+zeros-back [] before h = h
+zeros-back (r ∷ rs) before h = zeros-back rs (acceptedWith r ∷ before) (refl, h)
+
+by-reports : (each : PerWord) (ws z za : List ℕ) → Zeros (runOf each ws z za .reports) → AcceptedInTurn each ws z za
+unfolding runOf
+by-reports each [] z za h = tt
+by-reports each (w ∷ ws) z za h = (h .0, by-reports each ws (each w z za .z) (each w z za .za) (h .1))
+
+pub partners-accepted : PartnersAccepted
+partners-accepted s ws z za e =
+    by-reports (undoPaper s) (reverse ws) (there s ws z za .z) (there s ws z za .za)
+    (subst (λ (r : Run). Zeros (r .reports)) (sym e) (zeros-back (there s ws z za .reports) [] tt))

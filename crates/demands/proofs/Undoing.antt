@@ -1,0 +1,158 @@
+-- A step is undone by the step of the same fields with `subtract` flipped. Assumes nothing.
+use Prim.Native.Nat.{ℕ, _+_, _-_, _*_, _/_, _%_, _<_}
+use native.Mathlib.Omega.{arith}
+use mathlib.Core.Path.{_≡_, sym, ap, ap₂, _∙_, subst}
+use mathlib.Core.Logic.{_≢_, inl, inr, ⊎-elim}
+use mathlib.Core.Bool.{true, false}
+use mathlib.Core.List.{List}
+use lib.Dec.{eqb}
+use lib.ListN.{length}
+use borrow.Author.Tests.{eqb-true}
+use Rattle.laws.proofs.Tests.{never-both}
+use Rattle.settings.specs.Lengths.{VectorLength}
+use Rattle.settings.specs.Valid.{vectorBytes, arrayBytes}
+use Rattle.settings.specs.declared.Settings.{Settings}
+use Rattle.settings.proofs.Lengths.{vector-length, array-length}
+use Rattle.words.specs.Partner.{turned, isC}
+use Rattle.words.specs.Ranges.{OfFamily, Ranges}
+use Rattle.words.specs.declared.Family.{Family}
+use Rattle.words.specs.declared.Fields.{Fields}
+use Rattle.elements.specs.Files.{vectorAt}
+use Rattle.elements.proofs.Elements.{Bytes}
+use Rattle.elements.proofs.Files.{room, length-vectorAt, Bytes-vectorAt, renewed-undone}
+use Rattle.bits.proofs.Bits.{toggled-comm}
+use Rattle.recipes.specs.Recipe.{recipeOf, newLength, perSource}
+use Rattle.recipes.proofs.Built.{length-newBytes}
+use Rattle.recipes.proofs.Undone.{saturates-c, recipe-turned, undo-vector, undo-whole}
+use Rattle.machine.specs.Step.{register, newRegister, zAfter, stride, selected, firstVector, writesVector, newVector, zaAfter}
+use Rattle.machine.specs.Execute.{Outcome, counted, stepped}
+use Rattle.machine.specs.Loop.{IntoZa}
+use Rattle.machine.proofs.Stepping.{IntoZ, which-file, steppedZ, steppedZa, stepped-z, stepped-za}
+use Rattle.machine.proofs.Registers.{new-length, long-register}
+use Rattle.demands.specs.Execution.{Accepted}
+use Rattle.demands.specs.Sweep.{SourcesApart}
+use Rattle.demands.proofs.Outcomes.{accepted-ranges}
+use Rattle.demands.proofs.Effects.{z-new, z-same, each-za}
+
+-- ---- A and B: into Z
+
+module _ (s : Settings) (v : VectorLength (vectorBytes s)) (f : Fields) (g : Ranges f) (z : List ℕ) (long : length z ≡ 32 * vectorBytes s) (b : Bytes z)
+    (wraps : recipeOf (f .family) f 0 .saturating ≡ false) where
+  abbrev w : ℕ
+  w = vectorBytes s
+
+  abbrev d : ℕ
+  d = f .destination
+
+  -- the partner finds the same sources, and leaves the destination that there was
+  register-back : f .first < 32 → f .second < 32 → f .destination ≢ f .first → f .destination ≢ f .second
+      → newRegister s (turned f) (zAfter s f z) ≡ register s z (f .destination)
+  unfolding newRegister turned
+  register-back hf hs not-first not-second =
+      let n : ℕ = newLength (f .family) w in
+      let old-long : length (register s z d) ≡ w = length-vectorAt w d z (room d 32 w z long (g .destination)) in
+      undo-vector (recipeOf (f .family) f 0) (recipeOf (f .family) (turned f) 0) n (register s z d) (register s z (f .first)) (register s z (f .second))
+      (register s (zAfter s f z) d) (register s (zAfter s f z) (f .first)) (register s (zAfter s f z) (f .second))
+      (recipe-turned (f .family) f 0) wraps (new-length (f .family) w v .0)
+      (Bytes-vectorAt w d z b) (omega (arith, new-length (f .family) w v .1))
+      (z-new s v f g z long) (z-same s v f g z long (f .first) hf not-first) (z-same s v f g z long (f .second) hs not-second)
+
+  z-back : f .first < 32 → f .second < 32 → f .destination ≢ f .first → f .destination ≢ f .second → zAfter s (turned f) (zAfter s f z) ≡ z
+  unfolding zAfter turned
+  z-back hf hs not-first not-second =
+      renewed-undone (λ r. eqb r d) (λ r. newRegister s f z) (λ r. newRegister s (turned f) (zAfter s f z)) w 32 z long
+      (λ r h e. long-register s v f g z long)
+      (λ r h e. register-back hf hs not-first not-second ∙ ap (register s z) (sym (eqb-true r d e)))
+
+-- ---- D and E: into ZA
+
+module _ (s : Settings) (v : VectorLength (arrayBytes s)) (f : Fields) (g : Ranges f) (into : IntoZa f) (z za : List ℕ)
+    (long : length za ≡ arrayBytes s * arrayBytes s) (b : Bytes za) (wraps : (i : ℕ) → recipeOf (f .family) f i .saturating ≡ false) where
+  abbrev w-za : ℕ
+  w-za = arrayBytes s
+
+  -- vector u, by its row and its place in the row, where a word of these fields finds the given ZA
+  abbrev new : Fields → List ℕ → ℕ → List ℕ
+  new h a u = newVector s h z (u / stride s f) (u % stride s f - firstVector s f) (vectorAt w-za u a)
+
+  wide : (u : ℕ) → length (new f za u) ≡ w-za
+  unfolding newVector
+  wide u = length-newBytes _ w-za _ _ _ (omega (arith, v .whole))
+
+  vector-back : (u : ℕ) → u < arrayBytes s → writesVector s f u ≡ true → new (turned f) (zaAfter s f z za) u ≡ vectorAt w-za u za
+  unfolding newVector turned
+  vector-back u h e =
+      let i : ℕ = u % stride s f - firstVector s f in
+      let old-long : length (vectorAt w-za u za) ≡ w-za = length-vectorAt w-za u za (room u w-za w-za za long h) in
+      let now : vectorAt w-za u (zaAfter s f z za) ≡ new f za u = each-za s v f g into z za long u h ∙ rw e in
+      undo-whole (recipeOf (f .family) f i) (recipeOf (f .family) (turned f) i) w-za (vectorAt w-za u za)
+      (register s z (f .first + u / stride s f)) (register s z (f .second + u / stride s f)) (vectorAt w-za u (zaAfter s f z za))
+      (recipe-turned (f .family) f i) (wraps i) (omega (arith, v .whole)) (Bytes-vectorAt w-za u za b) old-long now
+
+  za-back : zaAfter s (turned f) z (zaAfter s f z za) ≡ za
+  unfolding zaAfter turned writesVector stride selected firstVector
+  za-back = renewed-undone (writesVector s f) (new f za) (new (turned f) (zaAfter s f z za)) w-za w-za za long (λ u h e. wide u) vector-back
+
+-- ---- the step
+
+-- the outcome `o` is undone: back to z and za, with its counts
+abbrev pub undoneFrom : Outcome → List ℕ → List ℕ → Outcome
+undoneFrom o z za = record { number = 0; toggled = o .toggled; written = o .written; z = z; za = za }
+
+-- a step and the step back change the same bits
+counted-back : (written : ℕ) (z za z′ za′ : List ℕ) → counted written z′ za′ z za ≡ undoneFrom (counted written z za z′ za′) z za
+counted-back written z za z′ za′ =
+    ap (λ (t : ℕ). record { number = 0; toggled = t; written = written; z = z; za = za }) (ap₂ _+_ (toggled-comm z′ z) (toggled-comm za′ za))
+
+-- a word that writes a V register has single source registers, and neither is the destination
+abbrev Single : Fields → Type 0
+Single f = (f .group ≡ 1) × (f .destination ≢ f .first) × (f .destination ≢ f .second)
+
+single : (f : Fields) → IntoZ f → OfFamily (f .family) f → isC (f .family) ≡ false → SourcesApart (f .family) f → Single f
+single f (inl e) o c p =
+    let q = subst (λ (x : Family). SourcesApart x f) e p in
+    (subst (λ (x : Family). OfFamily x f) e o, q .0, q .1)
+single f (inr (inl e)) o c p =
+    let q = subst (λ (x : Family). SourcesApart x f) e p in
+    (subst (λ (x : Family). OfFamily x f) e o, q .0, q .1)
+single f (inr (inr e)) o c p = absurd (never-both (isC (f .family)) (ap isC e) c)
+
+module _ (s : Settings) (w : ℕ) (f : Fields) (z za : List ℕ) (a : Accepted s w f z za) (bz : Bytes z) (bza : Bytes za) (c : isC (f .family) ≡ false) where
+  wraps : (i : ℕ) → recipeOf (f .family) f i .saturating ≡ false
+  wraps i = saturates-c (f .family) f i ∙ c
+
+  g : Ranges f
+  g = accepted-ranges s w z za f a
+
+  -- whatever the outcome is that the step comes to
+  abbrev Back : Outcome → Type 0
+  Back o = stepped s (turned f) (o .z) (o .za) ≡ undoneFrom o z za
+
+  into-z : IntoZ f → SourcesApart (f .family) f → Back (steppedZ s f z za)
+  unfolding turned
+  into-z i p =
+      let n : ℕ = 8 * newLength (f .family) (vectorBytes s) in
+      let q : Single f = single f i (g .of-family) c p in
+      let same : zAfter s (turned f) (zAfter s f z) ≡ z =
+      z-back s (vector-length s (a .valid)) f g z (a .z-exact) bz (wraps 0)
+      (omega (arith, g .first, q .0)) (omega (arith, g .second, q .0)) (q .1) (q .2) in
+      stepped-z s (turned f) (zAfter s f z) za i
+      ∙ ap (λ (x : List ℕ). counted n (zAfter s f z) za x za) same
+      ∙ counted-back n z za (zAfter s f z) za
+
+  into-za : IntoZa f → Back (steppedZa s f z za)
+  unfolding turned
+  into-za i =
+      let n : ℕ = 8 * vectorBytes s * f .group * perSource (f .family) in
+      let same : zaAfter s (turned f) z (zaAfter s f z za) ≡ za =
+      za-back s (array-length s (a .valid)) f g i z za (a .za-exact) bza wraps in
+      stepped-za s (turned f) z (zaAfter s f z za) i
+      ∙ ap (λ (x : List ℕ). counted n z (zaAfter s f z za) z x) same
+      ∙ counted-back n z za z (zaAfter s f z za)
+
+  pub step-back : SourcesApart (f .family) f → stepped s (turned f) (stepped s f z za .z) (stepped s f z za .za) ≡ undoneFrom (stepped s f z za) z za
+  step-back p =
+      ⊎-elim
+      (λ i. subst Back (sym (stepped-z s f z za i)) (into-z i p))
+      (λ i. subst Back (sym (stepped-za s f z za i)) (into-za i))
+      (which-file f)

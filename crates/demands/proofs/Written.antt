@@ -1,0 +1,174 @@
+-- A list is read as it is written, and there is one way to write it. Assumes nothing.
+use Prim.Native.Nat.{ℕ, zero, suc, _+_, _^_, _≤_, _<_}
+use native.Mathlib.Nat.{zero-add}
+use native.Mathlib.Omega.{arith}
+use mathlib.Core.Path.{_≡_, refl, sym, ap, ap₂, _∙_}
+use mathlib.Core.List.{List, [], _∷_, _++_, append-assoc, append-nil}
+use lib.Dec.{lit<, lit≤}
+use lib.ListN.{length, getD, take, drop, replicate, length-append, take-append-drop}
+use lib.Seq.{drop-drop, drop-length, drop-append-seam, take-at}
+use borrow.Author.Tests.{eq-eqb}
+use Rattle.laws.proofs.Lists.{Each}
+use Rattle.settings.specs.Valid.{validSettings, vectorBytes, arrayBytes}
+use Rattle.settings.specs.declared.Settings.{Settings}
+use Rattle.numbers.specs.Numbers.{putIn, put, puts, all, numberAt, numbersAt}
+use Rattle.numbers.specs.declared.Read.the-variants.{Number}
+use Rattle.numbers.proofs.Places.{number-put}
+use Rattle.numbers.proofs.Rows.{row-count}
+use Rattle.numbers.proofs.Forms.{number-form, row-form, row-put}
+use Rattle.runlist.specs.Plan.{Found, found, Asked, endedAt, wordsFrom, asking, settledFrom, settingsOf, headed, planOf}
+use Rattle.runlist.proofs.Plans.{words-counted, z-read}
+use Rattle.demands.specs.Lists.{longest, Fits, numbersOf, written, Askable, WrittenIsRead, OneList, LongestReached}
+use Rattle.demands.proofs.Reading.{made}
+
+-- ---- settings and their seven numbers
+
+four-of : (l : List ℕ) → length l ≡ 4 → getD l 0 0 ∷ getD l 1 0 ∷ getD l 2 0 ∷ getD l 3 0 ∷ [] ≡ l
+four-of [] h = absurd (omega arith)
+four-of (a ∷ []) h = absurd (omega arith)
+four-of (a ∷ b ∷ []) h = absurd (omega arith)
+four-of (a ∷ b ∷ c ∷ []) h = absurd (omega arith)
+four-of (a ∷ b ∷ c ∷ d ∷ []) h = refl
+four-of (a ∷ b ∷ c ∷ d ∷ e ∷ l) h = absurd (omega arith)
+
+settings-back : (s : Settings) → length (s .select) ≡ 4 → settingsOf (numbersOf s) ≡ s
+unfolding settingsOf
+settings-back s h = ap (λ (l : List ℕ). record { vl = s .vl; features = s .features; modes = s .modes; select = l }) (four-of (s .select) h)
+
+numbers-back : (head : List ℕ) → length head ≡ 7 → numbersOf (settingsOf head) ≡ head
+unfolding settingsOf
+numbers-back [] h = absurd (omega arith)
+numbers-back (a ∷ []) h = absurd (omega arith)
+numbers-back (a ∷ b ∷ []) h = absurd (omega arith)
+numbers-back (a ∷ b ∷ c ∷ l) h = ap (λ (x : List ℕ). a ∷ b ∷ c ∷ x) (four-of l (omega arith))
+
+-- ---- there is one way to write it
+
+pub one-list : OneList
+unfolding written
+one-list list z za room a e =
+    let m = made list z za room a e in
+    let w = m .words-are in
+    let numbers : m .head ≡ numbersOf (a .settings) =
+    sym (ap numbersOf (m .settings-are) ∙ numbers-back (m .head) (row-count list 0 7 (m .head) (m .at) (m .header))) in
+    let behind : drop (m .at) list ≡ a .z ++ drop (m .at + z) list =
+    sym (take-append-drop z (drop (m .at) list)) ∙ ap₂ (λ (x y : List ℕ). x ++ y) (sym (m .z-are)) (drop-drop z (m .at) list) in
+    let counted : drop (m .at + z) list ≡ put (length (a .words)) ++ drop (w .from) list = number-form list (m .at + z) (length (a .words)) (w .from) (w .count) in
+    let words : drop (w .from) list ≡ puts (a .words) =
+    row-form list (w .from) (length (a .words)) (a .words) (length list) (w .row) ∙ ap (λ (x : List ℕ). puts (a .words) ++ x) (drop-length list) ∙ append-nil (puts (a .words)) in
+    row-form list 0 7 (m .head) (m .at) (m .header)
+    ∙ ap₂ (λ (h t : List ℕ). puts h ++ t) numbers
+    (behind ∙ ap (λ (t : List ℕ). a .z ++ t) (counted ∙ ap (λ (t : List ℕ). put (length (a .words)) ++ t) words))
+
+-- ---- what is written is read
+
+module _ (z za room : ℕ) (a : Asked) (k : Askable z za room a) where
+  head : List ℕ
+  head = puts (numbersOf (a .settings))
+
+  behind : List ℕ
+  behind = put (length (a .words)) ++ puts (a .words)
+
+  -- up to the count, and up to the words
+  to-count : written a ≡ (head ++ a .z) ++ behind
+  unfolding written head behind
+  to-count = sym (append-assoc head (a .z) behind)
+
+  to-words : written a ≡ ((head ++ a .z) ++ put (length (a .words))) ++ (puts (a .words) ++ [])
+  unfolding behind
+  to-words =
+      to-count ∙ sym (append-assoc (head ++ a .z) (put (length (a .words))) (puts (a .words)))
+      ∙ ap (λ (t : List ℕ). ((head ++ a .z) ++ put (length (a .words))) ++ t) (sym (append-nil (puts (a .words))))
+
+  count-place : length (head ++ a .z) ≡ length head + z
+  count-place = length-append head (a .z) ∙ ap (λ (n : ℕ). length head + n) (k .fits .z-bytes)
+
+  words-place : ℕ
+  words-place = length ((head ++ a .z) ++ put (length (a .words)))
+
+  small-count : length (a .words) < 4294967296
+  small-count = omega (arith, k .fits .few)
+
+  count-is : numberAt (written a) (length head + z) ≡ Number (length (a .words)) words-place
+  unfolding words-place behind
+  count-is =
+      ap₂ numberAt to-count (sym count-place) ∙ number-put (head ++ a .z) (length (a .words)) (puts (a .words)) small-count
+      ∙ ap (Number (length (a .words))) (sym (length-append (head ++ a .z) (put (length (a .words)))))
+
+  words-are : numbersAt (written a) words-place (length (a .words)) ≡ all (a .words) (length (written a))
+  unfolding words-place
+  words-are =
+      ap (λ (l : List ℕ). numbersAt l words-place (length (a .words))) to-words
+      ∙ row-put ((head ++ a .z) ++ put (length (a .words))) (a .words) [] (k .words)
+      ∙ ap (all (a .words))
+      (sym (ap length to-words ∙ length-append ((head ++ a .z) ++ put (length (a .words))) (puts (a .words) ++ []) ∙ ap (λ (l : List ℕ). words-place + length l) (append-nil (puts (a .words)))))
+
+  words-read : found (a .words) ≡ wordsFrom (written a) room (length head + z)
+  words-read =
+      sym (ap (endedAt (written a)) words-are ∙ simp (eq-eqb (length (written a)) (length (written a)) refl))
+      ∙ words-counted (written a) room (length head + z) (length (a .words)) words-place count-is (k .fits .few) (k .fits .reported)
+
+  header-is : numbersAt (written a) 0 7 ≡ all (numbersOf (a .settings)) (length head)
+  unfolding written head behind
+  header-is =
+      ap (numbersAt (written a) 0) (sym (ap (λ (n : ℕ). suc (suc (suc n))) (k .four)))
+      ∙ row-put [] (numbersOf (a .settings)) (a .z ++ behind) (k .numbers)
+      ∙ ap (all (numbersOf (a .settings))) (zero-add (length head))
+
+  z-is : a .z ≡ take z (drop (length head) (written a))
+  unfolding written head behind
+  z-is =
+      sym (ap (take z) (drop-append-seam head (a .z ++ behind)) ∙ take-at (a .z) behind z (k .fits .z-bytes))
+
+  inside : length head + z ≤ length (written a)
+  inside = omega (arith, ap length to-count, length-append (head ++ a .z) behind, count-place)
+
+  pub is-read : planOf (written a) z za room ≡ found a
+  unfolding planOf
+  is-read =
+      ap (headed (written a) z za room) header-is
+      ∙ ap (λ (s : Settings). settledFrom (written a) z za room s (length head)) (settings-back (a .settings) (k .four))
+      ∙ sym (z-read (written a) z za room (a .settings) (length head) (k .fits .valid) (k .fits .exact) inside)
+      ∙ ap₂ (λ (y : List ℕ) (w : Found (List ℕ)). asking (a .settings) y w) (sym z-is) (sym words-read)
+
+pub written-is-read : WrittenIsRead
+written-is-read z za room a k = is-read z za room a k
+
+-- ---- the longest list
+
+each-replicate : (P : ℕ → Type 0) (n x : ℕ) → P x → Each P (replicate n x)
+each-replicate P zero x h = tt
+each-replicate P (suc n) x h = (h, each-replicate P n x h)
+
+-- W8 to W11 and all words have five bytes
+greatest : Asked
+greatest =
+    record {
+      settings = record { vl = 512; features = record { 0 = 0 }; modes = record { 0 = 0 }; select = replicate 4 4294967295 };
+      z = replicate 2048 0;
+      words = replicate 1024 4294967295;
+    }
+
+greatest-fits : Fits 2048 4096 3072 greatest
+unfolding greatest validSettings vectorBytes arrayBytes
+greatest-fits = record { valid = refl; exact = refl; z-bytes = refl; few = lit≤ tt; reported = lit≤ tt }
+
+small : 4294967295 < 2 ^ 32
+small = lit< tt
+
+greatest-askable : Askable 2048 4096 3072 greatest
+unfolding greatest
+greatest-askable =
+    record {
+      fits = greatest-fits;
+      four = refl;
+      numbers = (lit< tt, (lit< tt, (lit< tt, each-replicate (λ n. n < 2 ^ 32) 4 4294967295 small)));
+      words = each-replicate (λ n. n < 2 ^ 32) 1024 4294967295 small;
+    }
+
+greatest-long : length (written greatest) ≡ longest
+unfolding greatest written puts put putIn
+greatest-long = refl
+
+pub longest-reached : LongestReached
+longest-reached = (greatest, written-is-read 2048 4096 3072 greatest greatest-askable, greatest-long)

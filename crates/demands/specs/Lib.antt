@@ -1,0 +1,6 @@
+pub mod Execution
+pub mod Sweep
+pub mod SweepExamples
+pub mod Calls
+pub mod Lists
+pub mod ListExamples

@@ -1,0 +1,162 @@
+-- A candidate has the layout of the row that it was built by, and no word has two: so it says what that row says of it, and encode's test asks
+-- no other row. Assumes nothing.
+use Prim.Native.Nat.{ℕ, _+_, _*_, _/_, _%_, _^_, _<_}
+use native.Mathlib.Omega.{arith}
+use mathlib.Core.Path.{_≡_, refl, sym, ap, _∙_, subst}
+use mathlib.Core.Logic.{_⊎_, ⊎-elim}
+use mathlib.Core.List.{List, List·Memᴰ, List·Memᴰ·head as here, List·Memᴰ·tail as next}
+use mathlib.Core.Bool.{Bool, true, false, not, _||_, cond}
+use lib.Dec.{eqb}
+use lib.ListN.{getD}
+use borrow.Author.Tests.{eqb-true}
+use Rattle.laws.proofs.Tests.{either, failed, never-both, cond-holds}
+use Rattle.layouts.specs.Layout.{Layout, size, matches, value, parts, build}
+use Rattle.layouts.proofs.Inverse.{Fit, parts-build}
+use Rattle.words.specs.Rows.{rowA, rowB, rowC16, rowC32, rowD2, rowD4, rowE2, rowE4}
+use Rattle.words.specs.Says.{Row, entry, entryA, entryB, table, describe, fieldsA16, fieldsA32, vector, fieldsC, fieldsD, fieldsE}
+use Rattle.words.specs.declared.Family.{Family}
+use Rattle.words.specs.declared.Family.the-variants.{ByElement, Vector, Saturating, LongLong, Long}
+use Rattle.words.specs.declared.Fields.{Fields}
+use Rattle.words.proofs.Table.{described-exactly}
+use Rattle.words.proofs.Ranges.{in-range}
+use Rattle.encoding.specs.Candidate.{bitOf, valuesA16, valuesA32, valuesB, valuesC16, valuesC32, valuesD, valuesE, candidateBy, candidateOf, sameOf, saysOnly}
+use Rattle.encoding.proofs.Equal.{says-eq}
+
+-- ---- any row
+
+-- a word built of values that fit has these values and the layout
+built : (l : Layout) (vs : List ℕ) (w : ℕ) → Fit l vs → w ≡ build l vs → (parts l w ≡ vs) × (matches l w ≡ true)
+built l vs w fit e =
+    let z : 0 * 2 ^ size l + build l vs ≡ w = omega arith in
+    subst (λ (x : ℕ). (parts l x ≡ vs) × (matches l x ≡ true)) z (parts-build l vs 0 fit)
+
+-- so it says what its row says, where its size is not reserved
+row-says : (r : Row) → List·Memᴰ r table → (vs : List ℕ) → Fit (r .layout) vs → (f : Fields) (w : ℕ) → r .reserved w ≡ false → w ≡ build (r .layout) vs
+    → sameOf f (r .fields w) ≡ saysOnly f (describe w)
+row-says r listed vs fit f w o e =
+    sym (ap (saysOnly f) (described-exactly w (r .fields w) .1
+    (record { row = r; listed = listed; matching = built (r .layout) vs w fit e .1; open-size = o; fields = refl })))
+
+-- ---- the rows of the candidate
+
+-- the lanes of B
+abbrev pub laneB : ℕ → Bool
+laneB lane = eqb lane 8 || eqb lane 16 || eqb lane 32
+
+-- whether the fields are those that the candidate's row reads in the word
+abbrev pub ownBy : Family → Fields → ℕ → Bool
+ownBy ByElement f w = cond (eqb (f .lane) 16) (sameOf f (fieldsA16 w)) (sameOf f (fieldsA32 w))
+ownBy Vector f w = cond (laneB (f .lane)) (sameOf f (vector w (f .lane))) false
+ownBy Saturating f w = cond (eqb (f .lane) 16) (sameOf f (fieldsC rowC16 16 w)) (sameOf f (fieldsC rowC32 32 w))
+ownBy LongLong f w = cond (eqb (f .group) 2) (sameOf f (fieldsD rowD2 2 w)) (sameOf f (fieldsD rowD4 4 w))
+ownBy Long f w = cond (eqb (f .group) 2) (sameOf f (fieldsE rowE2 2 w)) (sameOf f (fieldsE rowE4 4 w))
+
+-- each value is within its field
+bit-lt : (b : Bool) → bitOf b < 2
+bit-lt true = omega arith
+bit-lt false = omega arith
+
+module _ (f : Fields) where
+  u : bitOf (f .unsigned) < 2
+  u = bit-lt (f .unsigned)
+
+  s : bitOf (f .subtract) < 2
+  s = bit-lt (f .subtract)
+
+  fit-a16 : Fit rowA (valuesA16 f)
+  fit-a16 = omega (arith, u, s)
+
+  fit-a32 : Fit rowA (valuesA32 f)
+  fit-a32 = omega (arith, u, s)
+
+  fit-b : Fit rowB (valuesB f)
+  fit-b = omega (arith, u, s)
+
+  fit-c16 : Fit rowC16 (valuesC16 f)
+  fit-c16 = omega (arith, s)
+
+  fit-c32 : Fit rowC32 (valuesC32 f)
+  fit-c32 = omega (arith, s)
+
+  fit-d2 : Fit rowD2 (valuesD f 2 16)
+  fit-d2 = omega (arith, u, s)
+
+  fit-d4 : Fit rowD4 (valuesD f 4 8)
+  fit-d4 = omega (arith, u, s)
+
+  fit-e2 : Fit rowE2 (valuesE f 2 16)
+  fit-e2 = omega (arith, u, s)
+
+  fit-e4 : Fit rowE4 (valuesE f 4 8)
+  fit-e4 = omega (arith, u, s)
+
+-- ss, the third value of A and of B
+abbrev third : List ℕ → ℕ
+third vs = getD vs 2 0
+
+-- A: the candidate's ss says which fields the row reads
+a : (f : Fields) (w : ℕ) (vs : List ℕ) → Fit rowA vs → not (eqb (third vs) 0b01 || eqb (third vs) 0b10) ≡ false → w ≡ build rowA vs
+    → sameOf f (cond (eqb (third vs) 0b01) (fieldsA16 w) (fieldsA32 w)) ≡ saysOnly f (describe w)
+a f w vs fit o e =
+    let ss : value rowA "s" w ≡ third vs = ap third (built rowA vs w fit e .0) in
+    ap (λ (x : ℕ). sameOf f (cond (eqb x 0b01) (fieldsA16 w) (fieldsA32 w))) (sym ss)
+    ∙ row-says entryA (here refl) vs fit f w (ap (λ (x : ℕ). not (eqb x 0b01 || eqb x 0b10)) ss ∙ o) e
+
+-- B: the ss of each of its lanes is not reserved, and gives the lane back
+lane-back : (lane : ℕ) → laneB lane ≡ true → (eqb (lane / 16 % 4) 0b11 ≡ false) × (8 * 2 ^ (lane / 16 % 4) ≡ lane)
+lane-back lane l =
+    either (eqb lane 8 || eqb lane 16) (eqb lane 32) l
+    (λ p. either (eqb lane 8) (eqb lane 16) p (λ q. is 8 q (refl, refl)) (λ q. is 16 q (refl, refl)))
+    (λ q. is 32 q (refl, refl))
+  where
+    Back : ℕ → Type 0
+    Back n = (eqb (n / 16 % 4) 0b11 ≡ false) × (8 * 2 ^ (n / 16 % 4) ≡ n)
+
+    is : (n : ℕ) → eqb lane n ≡ true → Back n → Back lane
+    is n q = subst Back (sym (eqb-true lane n q))
+
+b : (f : Fields) (w : ℕ) → laneB (f .lane) ≡ true → w ≡ build rowB (valuesB f) → sameOf f (vector w (f .lane)) ≡ saysOnly f (describe w)
+b f w l e =
+    let ss : value rowB "s" w ≡ f .lane / 16 % 4 = ap third (built rowB (valuesB f) w (fit-b f) e .0) in
+    let back = lane-back (f .lane) l in
+    ap (λ (lane : ℕ). sameOf f (vector w lane)) (sym (ap (λ (x : ℕ). 8 * 2 ^ x) ss ∙ back .1))
+    ∙ row-says entryB (next (here refl)) (valuesB f) (fit-b f) f w (ap (λ (x : ℕ). eqb x 0b11) ss ∙ back .0) e
+
+lane-known : (lane : ℕ) → (lane ≡ 8) ⊎ ((lane ≡ 16) ⊎ (lane ≡ 32)) → laneB lane ≡ true
+lane-known lane = ⊎-elim (λ e. rw e) (⊎-elim (λ e. rw e) (λ e. rw e))
+
+-- no word has another lane
+no-lane : (f : Fields) (w : ℕ) → laneB (f .lane) ≡ false → false ≡ saysOnly f (describe w)
+no-lane f w l = sym (failed _ (λ p. never-both _ (lane-known (f .lane) (in-range w f (says-eq f (describe w) p) .lane)) l))
+
+-- a choice of two rows
+one-of : (t : Bool) (w v u : ℕ) (p q r : Bool) → (w ≡ v → p ≡ r) → (w ≡ u → q ≡ r) → w ≡ cond t v u → cond t p q ≡ r
+one-of true w v u p q r k l e = k e
+one-of false w v u p q r k l e = l e
+
+own-by : (family : Family) (f : Fields) (w : ℕ) → w ≡ candidateBy family f → ownBy family f w ≡ saysOnly f (describe w)
+own-by ByElement f w = one-of (eqb (f .lane) 16) w _ _ _ _ _ (a f w (valuesA16 f) (fit-a16 f) refl) (a f w (valuesA32 f) (fit-a32 f) refl)
+own-by Vector f w = λ e. cond-holds (λ (t : Bool). t ≡ saysOnly f (describe w)) (laneB (f .lane)) _ _ (λ l. b f w l e) (no-lane f w)
+own-by Saturating f w =
+    one-of (eqb (f .lane) 16) w _ _ _ _ _
+    (row-says (entry rowC16 (fieldsC rowC16 16)) (next (next (here refl))) (valuesC16 f) (fit-c16 f) f w refl)
+    (row-says (entry rowC32 (fieldsC rowC32 32)) (next (next (next (here refl)))) (valuesC32 f) (fit-c32 f) f w refl)
+own-by LongLong f w =
+    one-of (eqb (f .group) 2) w _ _ _ _ _
+    (row-says (entry rowD2 (fieldsD rowD2 2)) (next (next (next (next (here refl))))) (valuesD f 2 16) (fit-d2 f) f w refl)
+    (row-says (entry rowD4 (fieldsD rowD4 4)) (next (next (next (next (next (here refl)))))) (valuesD f 4 8) (fit-d4 f) f w refl)
+own-by Long f w =
+    one-of (eqb (f .group) 2) w _ _ _ _ _
+    (row-says (entry rowE2 (fieldsE rowE2 2)) (next (next (next (next (next (next (here refl))))))) (valuesE f 2 16) (fit-e2 f) f w refl)
+    (row-says (entry rowE4 (fieldsE rowE4 4)) (next (next (next (next (next (next (next (here refl)))))))) (valuesE f 4 8) (fit-e4 f) f w refl)
+
+-- a choice whose test is known
+pub cond-yes : (t p q r : Bool) → t ≡ true → r ≡ p → r ≡ cond t p q
+cond-yes t p q r e h = rw e h
+
+pub cond-no : (t p q r : Bool) → t ≡ false → r ≡ q → r ≡ cond t p q
+cond-no t p q r e h = rw e h
+
+-- the answer of the candidate's own row is the answer of the whole table
+pub own : (family : Family) (f : Fields) (w : ℕ) (r : Bool) → f .family ≡ family → w ≡ candidateOf f → r ≡ ownBy family f w → r ≡ saysOnly f (describe w)
+own family f w r told e h = h ∙ own-by family f w (e ∙ ap (λ (x : Family). candidateBy x f) told)

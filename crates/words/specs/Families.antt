@@ -1,0 +1,17 @@
+-- The families by number: A is 1, and E is 5. Fields are compared by it, and C callers give and get it.
+use Prim.Native.Nat.{ℕ}
+use mathlib.Core.Bool.{cond}
+use lib.Dec.{eqb}
+use Rattle.words.specs.declared.Family.{Family}
+use Rattle.words.specs.declared.Family.the-variants.{ByElement, Vector, Saturating, LongLong, Long}
+
+abbrev pub familyNumber : Family → ℕ
+familyNumber ByElement = 1
+familyNumber Vector = 2
+familyNumber Saturating = 3
+familyNumber LongLong = 4
+familyNumber Long = 5
+
+-- the family of a number from 1 to 5
+abbrev pub familyOf : ℕ → Family
+familyOf n = cond (eqb n 1) ByElement (cond (eqb n 2) Vector (cond (eqb n 3) Saturating (cond (eqb n 4) LongLong Long)))
