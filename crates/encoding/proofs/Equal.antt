@@ -7,7 +7,7 @@ use borrow.Author.Tests.{eqb-true, eq-eqb}
 use Rattle.laws.proofs.Tests.{both, never-both}
 use Rattle.words.specs.Says.{Described, As, Nothing, describe}
 use Rattle.words.specs.declared.Fields.{Fields}
-use Rattle.words.proofs.Families.{family-eq}
+use Rattle.words.proofs.Numbers.{family-eq}
 use Rattle.encoding.specs.Encode.{Has}
 use Rattle.encoding.specs.Candidate.{sameOf, saysOnly, candidateOf}
 use Rattle.encoding.proofs.Only.{only}

@@ -13,10 +13,12 @@ use Rattle.laws.proofs.Tests.{by-cond, cond-holds, either, never-both}
 use Rattle.layouts.specs.Layout.{Layout, size, matches, value, build}
 use Rattle.layouts.proofs.Inverse.{Agrees, build-agrees}
 use Rattle.words.specs.Rows.{rowA, rowB, rowC16, rowC32, rowD2, rowD4, rowE2, rowE4}
+use Rattle.words.specs.Numbers.{bitOf}
+use Rattle.words.proofs.Numbers.{number-bit}
 use Rattle.words.specs.Says.{As, isOne, Row, entry, entryA, entryB, table, saysFirst, describe, fieldsA16, fieldsA32, fieldsB, fieldsC, fieldsD, fieldsE}
 use Rattle.words.specs.declared.Fields.{Fields}
 use Rattle.words.proofs.Table.{found, never}
-use Rattle.encoding.specs.Candidate.{bitOf, candidateOf, valuesA16, valuesA32, valuesB, valuesC16, valuesC32, valuesD, valuesE}
+use Rattle.encoding.specs.Candidate.{candidateOf, valuesA16, valuesA32, valuesB, valuesC16, valuesC32, valuesD, valuesE}
 
 -- ---- from the rows to the table
 
@@ -35,11 +37,6 @@ undone (r ∷ rs) w f k e =
     e
 
 -- ---- the numbers of the fields
-
-bit-is : (x : ℕ) → x < 2 → bitOf (isOne x) ≡ x
-bit-is zero h = refl
-bit-is (suc zero) h = refl
-bit-is (suc (suc x)) h = absurd (omega arith)
 
 lane-d : (x : ℕ) → x < 2 → (8 + 8 * x) / 16 % 2 ≡ x
 lane-d zero h = refl
@@ -73,8 +70,8 @@ module _ (w : ℕ) (lt : w < 2 ^ 32) where
   a-undone : Undone entryA w
   a-undone m n =
       let s = value rowA "s" w in
-      let unsigned = bit-is (value rowA "U" w) (omega arith) in
-      let subtract = bit-is (value rowA "S" w) (omega arith) in
+      let unsigned = number-bit (value rowA "U" w) (omega arith) in
+      let subtract = number-bit (value rowA "S" w) (omega arith) in
       cond-holds (λ (g : Fields). candidateOf g ≡ w) (eqb s 0b01) (fieldsA16 w) (fieldsA32 w)
       (λ e. one-row rowA (valuesA16 (fieldsA16 w)) refl m
       (let size-01 = eqb-true s 0b01 e in
@@ -88,27 +85,27 @@ module _ (w : ℕ) (lt : w < 2 ^ 32) where
 
   b-undone : Undone entryB w
   b-undone m n =
-      let unsigned = bit-is (value rowB "U" w) (omega arith) in
-      let subtract = bit-is (value rowB "S" w) (omega arith) in
+      let unsigned = number-bit (value rowB "U" w) (omega arith) in
+      let subtract = number-bit (value rowB "S" w) (omega arith) in
       let lane = lane-b (value rowB "s" w) (omega arith) n in
       one-row rowB (valuesB (fieldsB w)) refl m (omega arith)
 
   c16-undone : Undone (entry rowC16 (fieldsC rowC16 16)) w
   c16-undone m _ =
-      let subtract = bit-is (value rowC16 "S" w) (omega arith) in
+      let subtract = number-bit (value rowC16 "S" w) (omega arith) in
       one-row rowC16 (valuesC16 (fieldsC rowC16 16 w)) refl m (omega arith)
 
   c32-undone : Undone (entry rowC32 (fieldsC rowC32 32)) w
   c32-undone m _ =
-      let subtract = bit-is (value rowC32 "S" w) (omega arith) in
+      let subtract = number-bit (value rowC32 "S" w) (omega arith) in
       one-row rowC32 (valuesC32 (fieldsC rowC32 32 w)) refl m (omega arith)
 
   -- U and S stand at the same places in the four rows of D and E, and z in the two of D
   unsigned-za : bitOf (isOne (value rowD2 "U" w)) ≡ value rowD2 "U" w
-  unsigned-za = bit-is _ (omega arith)
+  unsigned-za = number-bit _ (omega arith)
 
   subtract-za : bitOf (isOne (value rowD2 "S" w)) ≡ value rowD2 "S" w
-  subtract-za = bit-is _ (omega arith)
+  subtract-za = number-bit _ (omega arith)
 
   lane-za : (8 + 8 * value rowD2 "z" w) / 16 % 2 ≡ value rowD2 "z" w
   lane-za = lane-d _ (omega arith)

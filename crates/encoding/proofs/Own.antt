@@ -1,6 +1,6 @@
 -- A candidate has the layout of the row that it was built by, and no word has two: so it says what that row says of it, and encode's test asks
 -- no other row. Assumes nothing.
-use Prim.Native.Nat.{ℕ, _+_, _*_, _/_, _%_, _^_, _<_}
+use Prim.Native.Nat.{ℕ, _+_, _*_, _/_, _%_, _^_, _≤_}
 use native.Mathlib.Omega.{arith}
 use mathlib.Core.Path.{_≡_, refl, sym, ap, _∙_, subst}
 use mathlib.Core.Logic.{_⊎_, ⊎-elim}
@@ -14,12 +14,14 @@ use Rattle.layouts.specs.Layout.{Layout, size, matches, value, parts, build}
 use Rattle.layouts.proofs.Inverse.{Fit, parts-build}
 use Rattle.words.specs.Rows.{rowA, rowB, rowC16, rowC32, rowD2, rowD4, rowE2, rowE4}
 use Rattle.words.specs.Says.{Row, entry, entryA, entryB, table, describe, fieldsA16, fieldsA32, vector, fieldsC, fieldsD, fieldsE}
+use Rattle.words.specs.Numbers.{bitOf}
 use Rattle.words.specs.declared.Family.{Family}
 use Rattle.words.specs.declared.Family.the-variants.{ByElement, Vector, Saturating, LongLong, Long}
 use Rattle.words.specs.declared.Fields.{Fields}
+use Rattle.words.proofs.Numbers.{bit-range}
 use Rattle.words.proofs.Table.{described-exactly}
 use Rattle.words.proofs.Ranges.{in-range}
-use Rattle.encoding.specs.Candidate.{bitOf, valuesA16, valuesA32, valuesB, valuesC16, valuesC32, valuesD, valuesE, candidateBy, candidateOf, sameOf, saysOnly}
+use Rattle.encoding.specs.Candidate.{valuesA16, valuesA32, valuesB, valuesC16, valuesC32, valuesD, valuesE, candidateBy, candidateOf, sameOf, saysOnly}
 use Rattle.encoding.proofs.Equal.{says-eq}
 
 -- ---- any row
@@ -52,16 +54,12 @@ ownBy LongLong f w = cond (eqb (f .group) 2) (sameOf f (fieldsD rowD2 2 w)) (sam
 ownBy Long f w = cond (eqb (f .group) 2) (sameOf f (fieldsE rowE2 2 w)) (sameOf f (fieldsE rowE4 4 w))
 
 -- each value is within its field
-bit-lt : (b : Bool) → bitOf b < 2
-bit-lt true = omega arith
-bit-lt false = omega arith
-
 module _ (f : Fields) where
-  u : bitOf (f .unsigned) < 2
-  u = bit-lt (f .unsigned)
+  u : bitOf (f .unsigned) ≤ 1
+  u = bit-range (f .unsigned)
 
-  s : bitOf (f .subtract) < 2
-  s = bit-lt (f .subtract)
+  s : bitOf (f .subtract) ≤ 1
+  s = bit-range (f .subtract)
 
   fit-a16 : Fit rowA (valuesA16 f)
   fit-a16 = omega (arith, u, s)

@@ -2,19 +2,15 @@
 -- a word has exactly these fields.
 use Prim.Native.Nat.{ℕ, _/_, _%_}
 use mathlib.Core.List.{List, [], _∷_}
-use mathlib.Core.Bool.{Bool, true, false, _&&_, cond, Bool·beq}
+use mathlib.Core.Bool.{Bool, false, _&&_, cond, Bool·beq}
 use lib.Dec.{eqb}
 use Rattle.layouts.specs.Layout.{Layout, row, build}
 use Rattle.words.specs.Rows.{rowA, rowB, rowC16, rowC32, rowD2, rowD4, rowE2, rowE4}
-use Rattle.words.specs.Families.{familyNumber}
+use Rattle.words.specs.Numbers.{familyNumber, bitOf}
 use Rattle.words.specs.declared.Family.{Family}
 use Rattle.words.specs.declared.Family.the-variants.{ByElement, Vector, Saturating, LongLong, Long}
 use Rattle.words.specs.declared.Fields.{Fields}
 use Rattle.words.specs.Says.{Described, As, Nothing}
-
-abbrev pub bitOf : Bool → ℕ
-bitOf true = 1
-bitOf false = 0
 
 -- ---- the values of a row's fields, in the row's order
 

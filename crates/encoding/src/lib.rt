@@ -4,7 +4,7 @@ ghost use Rattle.layouts.specs.Layout.{build};
 ghost use Rattle.words.specs.Rows.{rowA, rowB, rowC16, rowC32, rowD2, rowD4, rowE2, rowE4};
 ghost use Rattle.words.specs.Says.{describe};
 ghost use Rattle.encoding.specs.Encode.{Encodes, encodedSays};
-ghost use Rattle.encoding.specs.Candidate.{bitOf, valuesA, valuesA16, valuesA32, valuesB, lowC, valuesC, valuesC16, valuesC32, lowZa2, lowZa4, valuesZa, valuesD, valuesE, candidateOf, sameFamily, sameOf, saysOnly};
+ghost use Rattle.encoding.specs.Candidate.{valuesA, valuesA16, valuesA32, valuesB, lowC, valuesC, valuesC16, valuesC32, lowZa2, lowZa4, valuesZa, valuesD, valuesE, candidateOf, sameFamily, sameOf, saysOnly};
 use layouts::*;
 use settings::Refusal;
 use settings::Settings;
@@ -16,25 +16,19 @@ pub enum Encoded {
     Refused(Refusal),
 }
 
-fn bit(b: bool) -> u32
-    ensures { λ r. ⌜ (r ≡ bitOf b) × (r < 2) ⌝ }
-{
-    if b { 1 } else { 0 }
-}
-
 // A word of family A, of the values of ss, L, M, mmmm and H.
 fn word_a(f: Fields, s: u32, l: u32, m: u32, low: u32, h: u32) -> u32
     requires { ⌜ (s < 4) × (l < 2) × (m < 2) × (low < 16) × (h < 2) ⌝ }
     ensures { λ r. ⌜ r ≡ build rowA (valuesA f s l m low h) ⌝ }
 {
     f.part % 2 * BIT_30
-        + bit(f.unsigned) * BIT_29
+        + words::bit(f.unsigned) * BIT_29
         + 0b01111 * BIT_24
         + s * BIT_22
         + l * BIT_21
         + m * BIT_20
         + low * BIT_16
-        + bit(f.subtract) * BIT_14
+        + words::bit(f.subtract) * BIT_14
         + 0b10 * BIT_12
         + h * BIT_11
         + f.first % 32 * BIT_5
@@ -71,13 +65,13 @@ fn word_b(f: Fields) -> u32
     ensures { λ r. ⌜ r ≡ build rowB (valuesB f) ⌝ }
 {
     f.part % 2 * BIT_30
-        + bit(f.unsigned) * BIT_29
+        + words::bit(f.unsigned) * BIT_29
         + 0b01110 * BIT_24
         + f.lane / 16 % 4 * BIT_22
         + BIT_21
         + f.second % 32 * BIT_16
         + 0b10 * BIT_14
-        + bit(f.subtract) * BIT_13
+        + words::bit(f.subtract) * BIT_13
         + f.first % 32 * BIT_5
         + f.destination % 32
 }
@@ -87,7 +81,7 @@ fn low_c(f: Fields) -> u32
     ensures { λ r. ⌜ (r ≡ build lowC (valuesC f)) × (r < 65536) ⌝ }
 {
     0b001 * BIT_13
-        + bit(f.subtract) * BIT_12
+        + words::bit(f.subtract) * BIT_12
         + f.index % 2 * BIT_11
         + f.part % 2 * BIT_10
         + f.first % 32 * BIT_5
@@ -113,8 +107,8 @@ fn low_za2(f: Fields) -> u32
     f.second / 2 % 16 * BIT_17
         + f.select % 4 * BIT_13
         + f.first / 2 % 16 * BIT_6
-        + bit(f.unsigned) * BIT_4
-        + bit(f.subtract) * BIT_3
+        + words::bit(f.unsigned) * BIT_4
+        + words::bit(f.subtract) * BIT_3
 }
 
 fn low_za4(f: Fields) -> u32
@@ -124,8 +118,8 @@ fn low_za4(f: Fields) -> u32
         + 0b010 * BIT_15
         + f.select % 4 * BIT_13
         + f.first / 4 % 8 * BIT_7
-        + bit(f.unsigned) * BIT_4
-        + bit(f.subtract) * BIT_3
+        + words::bit(f.unsigned) * BIT_4
+        + words::bit(f.subtract) * BIT_3
 }
 
 fn word_d2(f: Fields) -> u32

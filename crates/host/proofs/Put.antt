@@ -20,7 +20,7 @@ use Rattle.tally.specs.declared.Tally.{Tally}
 use Rattle.runlist.specs.declared.RunAnswer.{RunAnswer}
 use Rattle.runlist.specs.declared.RunAnswer.the-variants as answer
 use Rattle.host.specs.declared.FieldsOf.the-variants.{Are, Nothing}
-use Rattle.words.specs.Families.{familyOf}
+use Rattle.words.specs.Numbers.{familyOf}
 use Rattle.host.specs.Host.{answerOf, halves, fieldNumbers, areFields, fieldsWith, fieldsOf, decodedInto, ExecutedPut, RanPut, Fits}
 
 -- ---- the halves

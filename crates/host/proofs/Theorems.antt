@@ -1,27 +1,25 @@
 -- The statements of specs/Theorems.antt, proved. Assumes nothing.
-use Prim.Native.Nat.{ℕ, zero, suc, _+_, _^_, _≤_}
+use Prim.Native.Nat.{ℕ, zero, suc, _+_, _^_}
 use native.Mathlib.Nat.{div-add-mod'}
 use native.Mathlib.Omega.{arith}
-use mathlib.Core.Path.{_≡_, refl, sym, ap, _∙_}
-use mathlib.Core.Bool.{Bool, true, false}
+use mathlib.Core.Path.{_≡_, sym, ap, _∙_}
+use mathlib.Core.Bool.{true}
 use mathlib.Core.List.{List, [], _∷_}
 use lib.Dec.{eqb, leb}
 use lib.ListN.{length, getD, drop, drop-of-length-le}
 use lib.Seq.{drop-cons}
-use borrow.Author.Tests.{ne-eqb, leb-true}
+use borrow.Author.Tests.{ne-eqb, leb-true, le-leb}
 use Rattle.laws.proofs.Tests.{both, by-cond}
 use Rattle.words.specs.Decode.{decodePaper}
-use Rattle.words.specs.declared.Family.{Family}
-use Rattle.words.specs.declared.Family.the-variants.{ByElement, Vector, Saturating, LongLong, Long}
 use Rattle.words.specs.declared.Fields.{Fields}
 use Rattle.machine.specs.Execute.{executePaper}
 use Rattle.runlist.specs.Plan.{settingsOf}
 use Rattle.runlist.specs.RunList.{runPaper}
 use Rattle.demands.proofs.Execution as execution
 use Rattle.demands.proofs.Lists as lists
-use Rattle.words.specs.Families.{familyNumber, familyOf}
-use Rattle.words.proofs.Families.{family-back}
-use Rattle.host.specs.Host.{halves, boolNumber, fieldNumbers, areFields, fieldsWith, fieldsOf, hostDecode, HostExecuted, hostExecute, HostRan, hostRun}
+use Rattle.words.specs.Numbers.{familyOf}
+use Rattle.words.proofs.Numbers.{family-range, family-back, number-family, bit-range, bit-back, number-bit}
+use Rattle.host.specs.Host.{halves, fieldNumbers, areFields, fieldsWith, fieldsOf, hostDecode, HostExecuted, hostExecute, HostRan, hostRun}
 use Rattle.host.specs.Theorems.{HalvesBack, AnswerBack, FieldsBack, NumbersBack, DecodeKeeps, ExecuteKeeps, RunKeeps}
 use Rattle.host.specs.declared.FieldsOf.{FieldsOf}
 use Rattle.host.specs.declared.FieldsOf.the-variants.{Are, Nothing}
@@ -37,40 +35,11 @@ answer-back answer = div-add-mod' answer (2 ^ 32)
 
 -- ---- fields and their numbers
 
--- a family's number is from 1 to 5
-family-number : (g : Family) → (leb 1 (familyNumber g) ≡ true) × (leb (familyNumber g) 5 ≡ true)
-family-number ByElement = (refl, refl)
-family-number Vector = (refl, refl)
-family-number Saturating = (refl, refl)
-family-number LongLong = (refl, refl)
-family-number Long = (refl, refl)
-
-bool-back : (b : Bool) → (leb (boolNumber b) 1 ≡ true) × (eqb (boolNumber b) 1 ≡ b)
-bool-back true = (refl, refl)
-bool-back false = (refl, refl)
-
 pub fields-back : FieldsBack
 unfolding fieldsOf
 fields-back f =
-    let g = family-number (f .family) in
-    let u = bool-back (f .unsigned) in
-    let s = bool-back (f .subtract) in
-    rw (g .0, g .1, u .0, s .0, family-back (f .family), u .1, s .1)
-
--- a number from 1 to 5 is that of its family, and one up to 1 that of its bool
-number-family : (n : ℕ) → 1 ≤ n → n ≤ 5 → familyNumber (familyOf n) ≡ n
-number-family zero p q = absurd (omega arith)
-number-family (suc zero) p q = refl
-number-family (suc (suc zero)) p q = refl
-number-family (suc (suc (suc zero))) p q = refl
-number-family (suc (suc (suc (suc zero)))) p q = refl
-number-family (suc (suc (suc (suc (suc zero))))) p q = refl
-number-family (suc (suc (suc (suc (suc (suc n)))))) p q = absurd (omega arith)
-
-number-bool : (n : ℕ) → n ≤ 1 → boolNumber (eqb n 1) ≡ n
-number-bool zero p = refl
-number-bool (suc zero) p = refl
-number-bool (suc (suc n)) p = absurd (omega arith)
+    let g = family-range (f .family) in
+    rw (le-leb _ _ (g .0), le-leb _ _ (g .1), le-leb _ _ (bit-range (f .unsigned)), le-leb _ _ (bit-range (f .subtract)), family-back (f .family), bit-back (f .unsigned), bit-back (f .subtract))
 
 -- the k elements from `at` on
 elements : ℕ → ℕ → List ℕ → List ℕ
@@ -90,7 +59,7 @@ numbers-are n e t =
     let p = both _ _ t in
     let q = both _ _ (p .0) in
     let r = both _ _ (q .0) in
-    rw (number-family (getD n 0 0) (leb-true _ _ (r .0)) (leb-true _ _ (r .1)), number-bool (getD n 1 0) (leb-true _ _ (q .1)), number-bool (getD n 2 0) (leb-true _ _ (p .1)))
+    rw (number-family (getD n 0 0) (leb-true _ _ (r .0)) (leb-true _ _ (r .1)), number-bit (getD n 1 0) (leb-true _ _ (q .1)), number-bit (getD n 2 0) (leb-true _ _ (p .1)))
     (elements-are 12 0 n (sym e))
 
 are : FieldsOf → Fields → Fields

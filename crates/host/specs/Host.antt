@@ -2,13 +2,14 @@
 -- is what the public calls promise; here it becomes numbers.
 use Prim.Native.Nat.{ℕ, _+_, _*_, _/_, _%_, _^_, _<_}
 use mathlib.Core.Path.{_≡_}
-use mathlib.Core.Bool.{Bool, true, false, _&&_, cond}
+use mathlib.Core.Bool.{Bool, _&&_, cond}
 use mathlib.Core.List.{List, [], _∷_}
 use lib.Dec.{eqb, leb}
 use lib.ListN.{getD}
 use Rattle.settings.specs.Valid.{validSettings}
 use Rattle.settings.specs.declared.Settings.{Settings}
-use Rattle.words.specs.Families.{familyNumber, familyOf}
+use Rattle.words.specs.Numbers.{familyNumber, familyOf, bitOf}
+use Rattle.words.specs.Says.{isOne}
 use Rattle.words.specs.Decode.{decodePaper}
 use Rattle.words.specs.Partner.{partnerPaper}
 use Rattle.words.specs.declared.Family.{Family}
@@ -36,13 +37,9 @@ halves answer = (answer % 2 ^ 32, answer / 2 ^ 32)
 
 -- ---- fields are twelve numbers
 
-abbrev pub boolNumber : Bool → ℕ
-boolNumber true = 1
-boolNumber false = 0
-
 abbrev pub fieldNumbers : Fields → List ℕ
 fieldNumbers f =
-    familyNumber (f .family) ∷ boolNumber (f .unsigned) ∷ boolNumber (f .subtract) ∷ f .lane ∷ f .part ∷ f .index
+    familyNumber (f .family) ∷ bitOf (f .unsigned) ∷ bitOf (f .subtract) ∷ f .lane ∷ f .part ∷ f .index
     ∷ f .destination ∷ f .first ∷ f .second ∷ f .group ∷ f .select ∷ f .offset ∷ []
 
 -- whether there are fields of which these are the numbers
@@ -53,8 +50,8 @@ abbrev pub fieldsWith : Family → List ℕ → Fields
 fieldsWith family n =
     record {
       family = family;
-      unsigned = eqb (getD n 1 0) 1;
-      subtract = eqb (getD n 2 0) 1;
+      unsigned = isOne (getD n 1 0);
+      subtract = isOne (getD n 2 0);
       lane = getD n 3 0;
       part = getD n 4 0;
       index = getD n 5 0;

@@ -4,11 +4,11 @@ ghost use mathlib.Core.Path.{_≡_};
 ghost use mathlib.Core.Bool.{cond};
 ghost use Rattle.settings.specs.Valid.{validSettings};
 ghost use Rattle.settings.specs.Refused.{refusalNumber};
-ghost use Rattle.words.specs.Families.{familyOf};
+ghost use Rattle.words.specs.Numbers.{familyOf};
 ghost use Rattle.words.specs.Decode.{decodedSays};
 ghost use Rattle.words.specs.Partner.{partneredSays};
 ghost use Rattle.encoding.specs.Encode.{encodedSays};
-ghost use Rattle.host.specs.Host.{halves, boolNumber, fieldNumbers, areFields, fieldsWith, fieldsOf as fieldsPaper, decodedInto, ExecutedPut, Fits, RanPut, HostDecode, HostEncode, HostPartner, HostExecute, HostPercent, HostRun};
+ghost use Rattle.host.specs.Host.{halves, fieldNumbers, areFields, fieldsWith, fieldsOf as fieldsPaper, decodedInto, ExecutedPut, Fits, RanPut, HostDecode, HostEncode, HostPartner, HostExecute, HostPercent, HostRun};
 use callinglamp::Decoded;
 use callinglamp::Encoded;
 use callinglamp::Executed;
@@ -54,20 +54,14 @@ fn family_of(number: u32) -> Family
     }
 }
 
-fn bool_number(b: bool) -> u32
-    ensures { λ r. ⌜ r ≡ boolNumber b ⌝ }
-{
-    if b { 1 } else { 0 }
-}
-
 fn put_fields(f: Fields, numbers: &mut [u32; 12])
     ensures { λ _. ⌜ now (numbers .exit) ≡ fieldNumbers f ⌝ }
 {
     let family = f.family;
     *numbers = [
         words::family_number(family),
-        bool_number(f.unsigned),
-        bool_number(f.subtract),
+        words::bit(f.unsigned),
+        words::bit(f.subtract),
         f.lane,
         f.part,
         f.index,

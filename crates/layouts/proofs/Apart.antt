@@ -1,13 +1,15 @@
--- Two layouts that fix some bit differently have no word in common. Whether they do is computed from the layouts. Assumes nothing.
+-- Two layouts that fix some bit differently have no word in common, and a word with another top byte than a layout's does not have it. Whether they do
+-- is computed from the layouts. Assumes nothing.
 use Prim.Native.Nat.{ℕ, zero, suc, _+_, _-_, _/_, _%_, _^_, _<_, _≤_}
 use native.Mathlib.Omega.{arith}
 use mathlib.Core.Path.{_≡_, refl, sym, ap, _∙_}
+use mathlib.Core.Logic.{_≢_}
 use mathlib.Core.List.{List, [], _∷_}
 use mathlib.Core.Bool.{Bool, true, false, not, _&&_, _||_, cond}
 use lib.Dec.{eqb, leb, ltb}
-use lib.Pow.{shr-shr, field as shr-of-mod, mod-mod-pow}
+use lib.Pow.{shr-shr, shr-mod, field as shr-of-mod, mod-mod-pow}
 use borrow.Author.Tests.{eqb-true, eqb-false, leb-true, ltb-true, not-true}
-use Rattle.laws.proofs.Tests.{both, either, never-both, cond-holds}
+use Rattle.laws.proofs.Tests.{both, either, never-both, failed, cond-holds}
 use Rattle.layouts.specs.Layout.{Layout, bits, field, size, part, matches}
 use Rattle.layouts.proofs.Inverse.{part-is, matched}
 
@@ -74,3 +76,33 @@ apartFrom l (m ∷ ms) = apart l m 32 && apartFrom l ms
 abbrev pub allApart : List Layout → Bool
 allApart [] = true
 allApart (l ∷ ls) = apartFrom l ls && allApart ls
+
+-- ---- the top byte
+
+-- whether a layout is of 32 bits and begins with at least eight fixed ones
+abbrev pub fixesTop : Layout → Bool
+fixesTop [] = false
+fixesTop (bits k x ∷ l) = leb 8 k && eqb (k + size l) 32
+fixesTop (field k a ∷ l) = false
+
+-- the first eight of them
+abbrev pub topOf : Layout → ℕ
+topOf [] = 0
+topOf (bits k x ∷ l) = x / 2 ^ (k - 8)
+topOf (field k a ∷ l) = 0
+
+-- a word with another top byte does not have the layout
+pub other-top : (l : Layout) (w : ℕ) → fixesTop l ≡ true → w < 2 ^ 32 → w / 2 ^ 24 ≢ topOf l → matches l w ≡ false
+other-top [] w f h n = absurd (never-both false f refl)
+other-top (bits k x ∷ l) w f h n =
+    let b = both (leb 8 k) (eqb (k + size l) 32) f in
+    let g : 8 ≤ k = leb-true _ _ (b .0) in
+    let s : k + size l ≡ 32 = eqb-true _ _ (b .1) in
+    let q : size l + (k - 8) ≡ 24 = omega arith in
+    let i : w < 2 ^ (k + size l) = rw s h in
+    failed (matches (bits k x ∷ l) w)
+    (λ m. n
+    (sym (ap (λ (p : ℕ). w / 2 ^ p) q) ∙ sym (shr-shr w (size l) (k - 8))
+    ∙ ap (λ (y : ℕ). y / 2 ^ (k - 8))
+    (sym (shr-mod k (size l) i) ∙ sym (part-is w (size l) k) ∙ eqb-true _ _ (matched (eqb (part w (size l) k) x) l w m .0))))
+other-top (field k a ∷ l) w f h n = absurd (never-both false f refl)

@@ -3,13 +3,10 @@ use Prim.Native.Nat.{ℕ, zero, suc, _+_, _*_, _/_, _%_, _^_, _<_}
 use native.Mathlib.Omega.{arith}
 use mathlib.Core.Path.{_≡_, refl, ap, _∙_}
 use mathlib.Core.Logic.{_⊎_, inl, inr, _≢_}
-use mathlib.Core.List.{[], _∷_, _++_}
+use mathlib.Core.List.{_++_}
 use mathlib.Core.Bool.{true, false}
-use lib.Dec.{eqb}
-use borrow.Author.Tests.{eqb-true}
-use Rattle.laws.proofs.Tests.{never-both, failed}
-use Rattle.layouts.specs.Layout.{Layout, matches}
-use Rattle.layouts.proofs.Inverse.{matched}
+use Rattle.laws.proofs.Tests.{never-both}
+use Rattle.layouts.proofs.Apart.{other-top}
 use Rattle.words.specs.Rows.{rowC16, rowC32, rowD2, rowD4, rowE2, rowE4}
 use Rattle.words.specs.Says.{Described, As, Nothing, fieldsB, tableZa, saysFirst, describe}
 use Rattle.words.specs.Decode.{enables, enablesFamily, noFields, enabledOnly, decodeEnabled}
@@ -20,48 +17,16 @@ use Rattle.words.proofs.Ranges.{in-range}
 
 -- ---- the top byte
 
--- a row of C or E begins with eleven fixed bits, one of D with nine: the top byte is the first eight of them
-nine : (w x : ℕ) → w < 2 ^ 32 → w / 8388608 % 512 ≡ x → w / 16777216 ≡ x / 2
-nine w x h e = omega arith
-
-eleven : (w x : ℕ) → w < 2 ^ 32 → w / 2097152 % 2048 ≡ x → w / 16777216 ≡ x / 8
-eleven w x h e = omega arith
-
--- a layout after its first segment
-abbrev rest : Layout → Layout
-rest [] = []
-rest (g ∷ l) = l
-
 module _ (w : ℕ) (h : w < 2 ^ 32) where
-  -- a word with another top byte than 01000100 matches no row of C
-  not-c16 : w / 16777216 ≢ 0b01000100 → matches rowC16 w ≡ false
-  not-c16 n = failed (matches rowC16 w) (λ m. n (eleven w 0b01000100101 h (eqb-true _ _ (matched (eqb (w / 2097152 % 2048) 0b01000100101) (rest rowC16) w m .0))))
-
-  not-c32 : w / 16777216 ≢ 0b01000100 → matches rowC32 w ≡ false
-  not-c32 n = failed (matches rowC32 w) (λ m. n (eleven w 0b01000100111 h (eqb-true _ _ (matched (eqb (w / 2097152 % 2048) 0b01000100111) (rest rowC32) w m .0))))
-
-  -- and one with another than 11000001 matches no row of D or E
-  not-d2 : w / 16777216 ≢ 0b11000001 → matches rowD2 w ≡ false
-  not-d2 n = failed (matches rowD2 w) (λ m. n (nine w 0b110000011 h (eqb-true _ _ (matched (eqb (w / 8388608 % 512) 0b110000011) (rest rowD2) w m .0))))
-
-  not-d4 : w / 16777216 ≢ 0b11000001 → matches rowD4 w ≡ false
-  not-d4 n = failed (matches rowD4 w) (λ m. n (nine w 0b110000011 h (eqb-true _ _ (matched (eqb (w / 8388608 % 512) 0b110000011) (rest rowD4) w m .0))))
-
-  not-e2 : w / 16777216 ≢ 0b11000001 → matches rowE2 w ≡ false
-  not-e2 n = failed (matches rowE2 w) (λ m. n (eleven w 0b11000001111 h (eqb-true _ _ (matched (eqb (w / 2097152 % 2048) 0b11000001111) (rest rowE2) w m .0))))
-
-  not-e4 : w / 16777216 ≢ 0b11000001 → matches rowE4 w ≡ false
-  not-e4 n = failed (matches rowE4 w) (λ m. n (eleven w 0b11000001111 h (eqb-true _ _ (matched (eqb (w / 2097152 % 2048) 0b11000001111) (rest rowE4) w m .0))))
-
   -- what the rows after A and B say of a word, by its top byte
   pub only-c : w / 16777216 ≡ 0b01000100 → saysFirst (tableC ++ tableZa) w ≡ saysFirst tableC w
-  only-c e = let n : w / 16777216 ≢ 0b11000001 = λ z. omega arith in rw (not-d2 n, not-d4 n, not-e2 n, not-e4 n)
+  only-c e = let n : w / 16777216 ≢ 0b11000001 = λ z. omega arith in rw (other-top rowD2 w refl h n, other-top rowD4 w refl h n, other-top rowE2 w refl h n, other-top rowE4 w refl h n)
 
   pub only-za : w / 16777216 ≡ 0b11000001 → saysFirst (tableC ++ tableZa) w ≡ saysFirst tableZa w
-  only-za e = let n : w / 16777216 ≢ 0b01000100 = λ z. omega arith in rw (not-c16 n, not-c32 n)
+  only-za e = let n : w / 16777216 ≢ 0b01000100 = λ z. omega arith in rw (other-top rowC16 w refl h n, other-top rowC32 w refl h n)
 
   pub no-row : w / 16777216 ≢ 0b01000100 → w / 16777216 ≢ 0b11000001 → saysFirst (tableC ++ tableZa) w ≡ Nothing
-  no-row n m = rw (not-c16 n, not-c32 n, not-d2 m, not-d4 m, not-e2 m, not-e4 m)
+  no-row n m = rw (other-top rowC16 w refl h n, other-top rowC32 w refl h n, other-top rowD2 w refl h m, other-top rowD4 w refl h m, other-top rowE2 w refl h m, other-top rowE4 w refl h m)
 
 -- ---- what a kind says
 

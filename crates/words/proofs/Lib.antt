@@ -1,4 +1,4 @@
-pub mod Families
+pub mod Numbers
 pub mod Table
 pub mod Turned
 pub mod Partners

@@ -1,4 +1,4 @@
-pub mod Families
+pub mod Numbers
 pub mod Rows
 pub mod Says
 pub mod Decode

@@ -1,7 +1,7 @@
 ghost use mathlib.Core.Path.{_≡_};
 ghost use Prim.Native.Nat.{_+_, _*_, _/_, _%_, _^_, _<_};
 ghost use Rattle.layouts.specs.Layout.{matches};
-ghost use Rattle.words.specs.Families.{familyNumber};
+ghost use Rattle.words.specs.Numbers.{familyNumber, bitOf};
 ghost use Rattle.words.specs.Rows.{rowA, rowB, rowC16, rowC32, rowD2, rowD4, rowE2, rowE4};
 ghost use Rattle.words.specs.Says.{byElement, fieldsA16, fieldsA32, vector, saturating, fieldsC, intoZa, fieldsD, fieldsE, As, entryA, entryB, tableZa, saysOf, saysFirst, describe as describePaper};
 ghost use Rattle.words.specs.Decode.{enablesFamily, enables as enablesPaper, decodedSays, decodePaper};
@@ -84,6 +84,13 @@ pub fn family_number(family: Family) -> u32
         Family::LongLong => 4,
         Family::Long => 5,
     }
+}
+
+// The number of a bit, S or U.
+pub fn bit(b: bool) -> u32
+    ensures { λ r. ⌜ (r ≡ bitOf b) × (r < 2) ⌝ }
+{
+    if b { 1 } else { 0 }
 }
 
 // 0 Q U 01111 ss L M mmmm 0 S 1 0 H 0 nnnnn ddddd
