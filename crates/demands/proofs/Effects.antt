@@ -28,11 +28,12 @@ use Rattle.bits.proofs.Files.{bytes-replaced-le}
 use Rattle.recipes.specs.Recipe.{Recipe, recipeOf, newLength, perSource}
 use Rattle.recipes.specs.Element.{newBytes}
 use Rattle.recipes.proofs.Built.{whole-elements, length-newBytes, Bytes-newBytes}
+use Rattle.recipes.proofs.Inside.{new-length}
 use Rattle.machine.specs.Step.{register, newRegister, zAfter, stride, firstVector, writesVector, newVector, zaAfter}
 use Rattle.machine.specs.Loop.{place, fresh}
-use Rattle.machine.proofs.Grid.{row-of, within-row, row-lt, Written, by-row, place-distinct}
+use Rattle.machine.proofs.Grid.{row-of, within-row, row-lt, row-written, by-row, place-distinct}
 use Rattle.machine.proofs.Array.{IntoZa, grid, tested, passes, placed, array-is}
-use Rattle.machine.proofs.Registers.{new-length, long-x, long-register, register-is}
+use Rattle.machine.proofs.Registers.{long-x, long-register, register-is}
 use Rattle.recipes.proofs.Sizes.{InBits, newOf, bytes-of-wide, counted-in-bits, element-in-bits}
 use Rattle.demands.specs.Execution.{zaVector, Among}
 
@@ -113,10 +114,7 @@ module _ (s : Settings) (v : VectorLength (arrayBytes s)) (f : Fields) (g : Rang
       record { r = u / stride s f; i = u % stride s f - firstVector s f; r-below = b .0; i-below = b .1; is = sym (b .2) }
 
   pub named : (r i : ℕ) → i < perSource (f .family) → writesVector s f (firstVector s f + r * stride s f + i) ≡ true
-  unfolding Written
-  named r i h =
-      let q = within-row (grid s v f g into) r i h in
-      passes s v f g into (firstVector s f + r * stride s f + i) (omega (arith, q), omega (arith, q))
+  named r i h = passes s v f g into (firstVector s f + r * stride s f + i) (row-written (grid s v f g into) r i h)
 
 module _ (s : Settings) (v : VectorLength (arrayBytes s)) (f : Fields) (g : Ranges f) (into : IntoZa f) (z za : List ℕ)
     (long : length za ≡ arrayBytes s * arrayBytes s) where

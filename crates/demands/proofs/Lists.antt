@@ -16,14 +16,11 @@ use Rattle.numbers.proofs.Places.{number-kept}
 use Rattle.numbers.proofs.Rows.{row-kept}
 use Rattle.runlist.specs.Plan.{Found, found, refused, Asked, mostWords, endedAt, wordsFrom, asking, settledFrom, headed, planOf}
 use Rattle.runlist.specs.RunList.{carriedOut, runPaper}
-use Rattle.runlist.proofs.Plans.{words-counted, z-read}
+use Rattle.runlist.proofs.Plans.{not-refused, words-counted, z-read}
 use Rattle.demands.specs.Lists.{longest, AtMostLongest, OnlyWhole, FirstBytesDecide, EnoughBytes, RunOfEnough, LengthsHold, RefusedKeeps, PlaceInside, PlaceNear, RunSmall, OfList, RefusedWith}
 use Rattle.demands.proofs.Reading.{Worded, Made, made, Refusing, by-cause, far}
 
 -- ---- how long a list can be
-
-not-found : {A : Type 0} (a : A) (x : Found A) (p : ℕ) → x ≡ found a → x ≡ refused ExtraBytes p → ⊥
-not-found a x p e f = let z : _≡_ {A = ℕ} 0 1 = cc in omega arith
 
 some-bytes : (t : List ℕ) → t ≢ [] → 0 < length t
 some-bytes [] h = absurd (h refl)
@@ -57,7 +54,7 @@ at-most-longest list z za room a e =
       | yes y ↦ y
       | no n ↦
           let whole = only-whole list z za room a e (0 ∷ []) (λ (f : 0 ∷ [] ≡ []). let z : _≡_ {A = ℕ} 0 1 = cc in omega arith) in
-          absurd (not-found a (planOf (list ++ 0 ∷ []) z za room) (length list) (first-bytes-decide list (0 ∷ []) z za room (omega arith) ∙ e) whole)
+          not-refused a ExtraBytes (length list) (sym whole ∙ first-bytes-decide list (0 ∷ []) z za room (omega arith) ∙ e)
     ]
 
 pub enough-bytes : EnoughBytes

@@ -9,21 +9,21 @@ use lib.Dec.{leb, eqb, ltb}
 use lib.ListN.{length, take, drop, length-append, length-drop}
 use lib.Seq.{take-append-le, drop-append-le}
 use borrow.Author.Tests.{leb-true, leb-false, le-leb, eqb-true, ne-eqb, ltb-true}
-use Rattle.laws.proofs.Tests.{both, by-cond, cond-holds}
+use Rattle.laws.proofs.Tests.{both, by-cond, cond-holds, cond-then}
 use Rattle.settings.specs.Valid.{validSettings}
 use Rattle.settings.specs.declared.Refusal.{Refusal}
 use Rattle.settings.specs.declared.Refusal.the-variants.{BadSettings, BadLength, ListEnds, BadNumber, TooManyWords, ExtraBytes}
 use Rattle.settings.specs.declared.Settings.{Settings}
 use Rattle.settings.proofs.Lengths.{valid-parts, vector-at-most, vector-bits}
-use Rattle.numbers.specs.Numbers.{Numbers, all, fault, numberAt, numbersAt}
+use Rattle.numbers.specs.Numbers.{put, puts, Numbers, all, fault, numberAt, numbersAt}
 use Rattle.numbers.specs.declared.Read.{Read}
 use Rattle.numbers.specs.declared.Read.the-variants.{Number, Fault}
 use Rattle.numbers.proofs.Shortest.{put-length-1, put-length-2}
 use Rattle.numbers.proofs.Places.{number-far, number-within, number-fault}
-use Rattle.numbers.proofs.Rows.{row-count, row-within, row-far, row-fault, row-fault-within, putLengths, put-lengths-few, row-place}
+use Rattle.numbers.proofs.Rows.{row-count, row-within, row-far, row-fault, row-fault-within, put-lengths-few, row-place}
 use Rattle.machine.specs.Execute.{rightLengths}
 use Rattle.runlist.specs.Plan.{Found, found, refused, Asked, mostWords, endedAt, afterCount, wordsFrom, asking, zLength, zFrom, settledFrom, settingsOf, headed, planOf}
-use Rattle.runlist.proofs.Plans.{z-right}
+use Rattle.runlist.proofs.Plans.{not-refused, z-right}
 use Rattle.demands.specs.Lists.{longest}
 
 -- the Z bytes, where their length is exact
@@ -33,9 +33,6 @@ unfolding zFrom
 z-exact list room s at z za l = rw (z-right s z za l)
 
 -- ---- what an accepted list is made of
-
-not-refused : {A : Type 0} {P : Type 0} (a : A) (r : Refusal) (p : ℕ) → refused r p ≡ found a → P
-not-refused a r p e = let z : _≡_ {A = ℕ} 0 1 = cc in absurd (omega arith)
 
 -- a count at `at`, and as many words, with which the list ends
 pub record Worded (list : List ℕ) (room at : ℕ) (ws : List ℕ) : Type 0 where
@@ -152,7 +149,7 @@ module _ (list : List ℕ) (z za room : ℕ) (Q : Refusal → ℕ → Type 0) (c
 
   by-end : (at n : ℕ) (m : Numbers) → at ≤ length list → numbersAt list at n ≡ m → Refusing Q (endedAt list m)
   by-end at n (all ws p) h e =
-      cond-holds (Refusing Q) (eqb p (length list)) (found ws) (refused ExtraBytes p) (λ t. tt) (λ t. c .extra p (row-within list at n ws p h e .2))
+      cond-holds (Refusing Q) (eqb p (length list)) (found ws) (refused ExtraBytes p) (λ t. tt) (λ t. c .extra p (row-within list at n ws p h e .1))
   by-end at n (fault vs r p) h e = of-number r p (row-fault-within list at n vs r p h e .2) (row-fault list at n vs r p e)
 
   by-count : (at : ℕ) (r : Read) → at ≤ length list → numberAt list at ≡ r → Refusing Q (afterCount list room at r)
@@ -181,7 +178,7 @@ module _ (list : List ℕ) (z za room : ℕ) (Q : Refusal → ℕ → Type 0) (c
   by-row (all head at) e =
       cond-holds (Refusing Q) (validSettings (settingsOf head)) _ (refused BadSettings 0)
       (λ v. cond-holds (Refusing Q) (rightLengths (settingsOf head) z za) _ (refused BadLength 0)
-      (λ l. by-z (settingsOf head) at (row-within list 0 7 head at (omega arith) e .2))
+      (λ l. by-z (settingsOf head) at (row-within list 0 7 head at (omega arith) e .1))
       (λ l. c .lengths head at e v l))
       (λ v. c .settings)
   by-row (fault vs r p) e = of-number r p (row-fault-within list 0 7 vs r p (omega arith) e .2) (row-fault list 0 7 vs r p e)
@@ -208,8 +205,8 @@ module _ (s : Settings) (v : validSettings s ≡ true) where
   length-few = omega (arith, vector-at-most s v, vector-bits s v)
 
 -- valid settings make VL's number two bytes at most, and those of features and modes one
-head-few : (head : List ℕ) → length head ≡ 7 → validSettings (settingsOf head) ≡ true → putLengths head ≤ 2 + 1 + 1 + 4 * 5
-unfolding settingsOf putLengths
+head-few : (head : List ℕ) → length head ≡ 7 → validSettings (settingsOf head) ≡ true → length (puts head) ≤ 2 + 1 + 1 + 4 * 5
+unfolding settingsOf puts
 head-few [] e v = omega arith
 head-few (x ∷ []) e v = omega arith
 head-few (x ∷ y ∷ []) e v = omega arith
@@ -218,11 +215,7 @@ head-few (x ∷ y ∷ w ∷ ws) e v =
     let a = put-length-2 x (omega (arith, length-few s v)) in
     let b = put-length-1 y (omega (arith, features-few s v)) in
     let c = put-length-1 w (omega (arith, modes-few s v)) in
-    omega (arith, put-lengths-few ws)
-
-cond-then : {A : Type 0} (b : Bool) (x x′ y : A) → (b ≡ true → x ≡ x′) → cond b x y ≡ cond b x′ y
-cond-then true x x′ y h = h refl
-cond-then false x x′ y h = refl
+    omega (arith, put-lengths-few ws, length-append (put x) (puts (y ∷ w ∷ ws)), length-append (put y) (puts (w ∷ ws)), length-append (put w) (puts ws))
 
 module _ (list t : List ℕ) where
   longer : length list ≤ length (list ++ t)

@@ -5,8 +5,9 @@ use mathlib.Core.Bool.{Bool, false, cond}
 use mathlib.Core.Logic.{_≢_}
 use mathlib.Core.List.{List, [], _∷_, map, reverse, reverseAux}
 use lib.Dec.{eqb}
-use borrow.Author.Tests.{eqb-true, eq-eqb, ne-eqb}
-use Rattle.laws.proofs.Tests.{never-both, cond-holds}
+use borrow.Author.Tests.{eqb-true, eqb-false, eq-eqb, ne-eqb}
+use Rattle.laws.specs.Lists.{Each}
+use Rattle.laws.proofs.Tests.{cond-holds}
 use Rattle.settings.specs.declared.Settings.{Settings}
 use Rattle.words.specs.Decode.{decodePaper}
 use Rattle.words.specs.Partner.{partnerWord, turned, isC, partnerPaper}
@@ -17,7 +18,7 @@ use Rattle.machine.specs.Execute.{Outcome, refusedWith, stepped, executePaper}
 use Rattle.machine.specs.Run.{Report, reportOf, Run, PerWord, reportFirst, runOf}
 use Rattle.demands.specs.Execution.{Accepted}
 use Rattle.demands.specs.Sweep.{there, undoPaper}
-use Rattle.demands.specs.Sweep.{AcceptedInTurn, EveryWord, NotSaturating, SourcesApart, NotItsOwnSource, acceptedWith, SweepCloses}
+use Rattle.demands.specs.Sweep.{AcceptedInTurn, NotSaturating, SourcesApart, NotItsOwnSource, acceptedWith, SweepCloses}
 use Rattle.demands.specs.Sweep.{BothAccept, UndoAccepts, PartnersAccepted}
 use Rattle.demands.proofs.Execution.{accepted-exactly, accepted-steps, lengths-kept, bytes-kept}
 use Rattle.demands.proofs.Undoing.{undoneFrom, step-back}
@@ -79,7 +80,7 @@ module _ (s : Settings) (w : ℕ) (z za : List ℕ) where
 
 -- the way back over the words so far, `acc`, goes on from where the words that are left begin
 way-back : (s : Settings) (ws acc z za z₀ za₀ : List ℕ) (before : List Report) → Bytes z → Bytes za
-    → AcceptedInTurn (executePaper s) ws z za → EveryWord (NotSaturating s) ws → EveryWord (NotItsOwnSource s) ws
+    → AcceptedInTurn (executePaper s) ws z za → Each (NotSaturating s) ws → Each (NotItsOwnSource s) ws
     → runOf (undoPaper s) acc z za ≡ record { z = z₀; za = za₀; reports = before }
     → runOf (undoPaper s) (reverseAux ws acc) (there s ws z za .z) (there s ws z za .za)
     ≡ record { z = z₀; za = za₀; reports = reverseAux (map acceptedWith (there s ws z za .reports)) before }
@@ -105,20 +106,19 @@ undo-accepts s w z za =
     let o : Outcome = executePaper s (partnerPaper s w .1) z za in (
       cond-holds (λ (u : Outcome). u .number ≡ 0 → BothAccept s w z za) (eqb n 0) o (refusedWith n z za)
           (λ t e. (eqb-true n 0 t, e))
-          (λ t e. absurd (never-both (eqb n 0) (eq-eqb n 0 e) t)),
+          (λ t e. absurd (eqb-false n 0 t e)),
       λ b. ap (λ (t : Bool). cond t o (refusedWith n z za) .number) (eq-eqb n 0 (b .0)) ∙ b .1,
     )
 
--- each report has the number 0
-abbrev Zeros : List Report → Type 0
-Zeros [] = Unit {0}
-Zeros (r ∷ rs) = (r .0 ≡ 0) × Zeros rs
+-- a report of number 0
+abbrev Zero : Report → Type 0
+Zero r = r .0 ≡ 0
 
-zeros-back : (rs before : List Report) → Zeros before → Zeros (reverseAux (map acceptedWith rs) before)
+zeros-back : (rs before : List Report) → Each Zero before → Each Zero (reverseAux (map acceptedWith rs) before)
 zeros-back [] before h = h
 zeros-back (r ∷ rs) before h = zeros-back rs (acceptedWith r ∷ before) (refl, h)
 
-by-reports : (each : PerWord) (ws z za : List ℕ) → Zeros (runOf each ws z za .reports) → AcceptedInTurn each ws z za
+by-reports : (each : PerWord) (ws z za : List ℕ) → Each Zero (runOf each ws z za .reports) → AcceptedInTurn each ws z za
 unfolding runOf
 by-reports each [] z za h = tt
 by-reports each (w ∷ ws) z za h = (h .0, by-reports each ws (each w z za .z) (each w z za .za) (h .1))
@@ -126,4 +126,4 @@ by-reports each (w ∷ ws) z za h = (h .0, by-reports each ws (each w z za .z) (
 pub partners-accepted : PartnersAccepted
 partners-accepted s ws z za e =
     by-reports (undoPaper s) (reverse ws) (there s ws z za .z) (there s ws z za .za)
-    (subst (λ (r : Run). Zeros (r .reports)) (sym e) (zeros-back (there s ws z za .reports) [] tt))
+    (subst (λ (r : Run). Each Zero (r .reports)) (sym e) (zeros-back (there s ws z za .reports) [] tt))

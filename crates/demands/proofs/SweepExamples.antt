@@ -7,8 +7,7 @@ use mathlib.Core.Bool.{false}
 use mathlib.Core.List.{List, [], _∷_, map, reverse}
 use lib.Dec.{eqb}
 use lib.ListN.{getD}
-use borrow.Author.Tests.{eq-eqb}
-use Rattle.laws.proofs.Tests.{never-both}
+use borrow.Author.Tests.{eqb-false}
 use Rattle.settings.specs.Valid.{validSettings, vectorBytes, arrayBytes}
 use Rattle.words.specs.Says.{describe}
 use Rattle.words.specs.Decode.{enables, decodeEnabled, decodePaper}
@@ -81,7 +80,7 @@ Sources f = SourcesApart (f .family) f
 
 -- a word of A or B, by its registers
 apart : (d n m : ℕ) → eqb d n ≡ false → eqb d m ≡ false → (d ≢ n) × (d ≢ m)
-apart d n m p q = ((λ e. never-both (eqb d n) (eq-eqb d n e) p), (λ e. never-both (eqb d m) (eq-eqb d m e) q))
+apart d n m p q = (eqb-false d n p, eqb-false d m q)
 
 pub all-met : AllMet
 unfolding decodePaper decodeEnabled describe enables validSettings vectorBytes arrayBytes executePaper executeFields stepped zAfter

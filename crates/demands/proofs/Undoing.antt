@@ -23,12 +23,13 @@ use Rattle.elements.proofs.Files.{room, length-vectorAt, Bytes-vectorAt, renewe
 use Rattle.bits.proofs.Bits.{toggled-comm}
 use Rattle.recipes.specs.Recipe.{recipeOf, newLength, perSource}
 use Rattle.recipes.proofs.Built.{length-newBytes}
+use Rattle.recipes.proofs.Inside.{new-length}
 use Rattle.recipes.proofs.Undone.{saturates-c, recipe-turned, undo-vector, undo-whole}
 use Rattle.machine.specs.Step.{register, newRegister, zAfter, stride, selected, firstVector, writesVector, newVector, zaAfter}
 use Rattle.machine.specs.Execute.{Outcome, counted, stepped}
 use Rattle.machine.specs.Loop.{IntoZa}
 use Rattle.machine.proofs.Stepping.{IntoZ, which-file, steppedZ, steppedZa, stepped-z, stepped-za}
-use Rattle.machine.proofs.Registers.{new-length, long-register}
+use Rattle.machine.proofs.Registers.{long-register}
 use Rattle.demands.specs.Execution.{Accepted}
 use Rattle.demands.specs.Sweep.{SourcesApart}
 use Rattle.demands.proofs.Outcomes.{accepted-ranges}

@@ -3,12 +3,13 @@ use Prim.Native.Nat.{ℕ, zero, suc, _+_, _^_, _≤_, _<_}
 use native.Mathlib.Nat.{zero-add}
 use native.Mathlib.Omega.{arith}
 use mathlib.Core.Path.{_≡_, refl, sym, ap, ap₂, _∙_}
-use mathlib.Core.List.{List, [], _∷_, _++_, append-assoc, append-nil}
+use mathlib.Core.List.{List, [], _++_, append-assoc, append-nil}
 use lib.Dec.{lit<, lit≤}
-use lib.ListN.{length, getD, take, drop, replicate, length-append, take-append-drop}
+use lib.ListN.{length, take, drop, replicate, length-append, take-append-drop}
 use lib.Seq.{drop-drop, drop-length, drop-append-seam, take-at}
 use borrow.Author.Tests.{eq-eqb}
-use Rattle.laws.proofs.Lists.{Each}
+use Rattle.laws.specs.Lists.{Each}
+use Rattle.laws.proofs.Lists.{elements, elements-are}
 use Rattle.settings.specs.Valid.{validSettings, vectorBytes, arrayBytes}
 use Rattle.settings.specs.declared.Settings.{Settings}
 use Rattle.numbers.specs.Numbers.{putIn, put, puts, all, numberAt, numbersAt}
@@ -23,24 +24,13 @@ use Rattle.demands.proofs.Reading.{made}
 
 -- ---- settings and their seven numbers
 
-four-of : (l : List ℕ) → length l ≡ 4 → getD l 0 0 ∷ getD l 1 0 ∷ getD l 2 0 ∷ getD l 3 0 ∷ [] ≡ l
-four-of [] h = absurd (omega arith)
-four-of (a ∷ []) h = absurd (omega arith)
-four-of (a ∷ b ∷ []) h = absurd (omega arith)
-four-of (a ∷ b ∷ c ∷ []) h = absurd (omega arith)
-four-of (a ∷ b ∷ c ∷ d ∷ []) h = refl
-four-of (a ∷ b ∷ c ∷ d ∷ e ∷ l) h = absurd (omega arith)
-
 settings-back : (s : Settings) → length (s .select) ≡ 4 → settingsOf (numbersOf s) ≡ s
-unfolding settingsOf
-settings-back s h = ap (λ (l : List ℕ). record { vl = s .vl; features = s .features; modes = s .modes; select = l }) (four-of (s .select) h)
+unfolding settingsOf elements
+settings-back s h = ap (λ (l : List ℕ). record { vl = s .vl; features = s .features; modes = s .modes; select = l }) (elements-are 4 0 (s .select) (sym h))
 
 numbers-back : (head : List ℕ) → length head ≡ 7 → numbersOf (settingsOf head) ≡ head
-unfolding settingsOf
-numbers-back [] h = absurd (omega arith)
-numbers-back (a ∷ []) h = absurd (omega arith)
-numbers-back (a ∷ b ∷ []) h = absurd (omega arith)
-numbers-back (a ∷ b ∷ c ∷ l) h = ap (λ (x : List ℕ). a ∷ b ∷ c ∷ x) (four-of l (omega arith))
+unfolding settingsOf elements
+numbers-back head h = elements-are 7 0 head (sym h)
 
 -- ---- there is one way to write it
 

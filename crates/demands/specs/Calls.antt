@@ -2,6 +2,7 @@
 use Prim.Native.Nat.{ℕ}
 use mathlib.Core.Path.{_≡_}
 use mathlib.Core.List.{List, [], _∷_, reverse}
+use Rattle.laws.specs.Lists.{Each}
 use Rattle.settings.specs.declared.Settings.{Settings}
 use Rattle.words.specs.Partner.{PartnerPromise}
 use Rattle.words.specs.declared.Partnered.{Partnered}
@@ -10,7 +11,7 @@ use Rattle.elements.specs.Elements.{Bytes}
 use Rattle.machine.specs.Execute.{ExecutePromise}
 use Rattle.machine.specs.declared.Executed.{Executed}
 use Rattle.machine.specs.declared.Executed.the-variants.{Done, Refused}
-use Rattle.demands.specs.Sweep.{EveryWord, NotSaturating, NotItsOwnSource}
+use Rattle.demands.specs.Sweep.{NotSaturating, NotItsOwnSource}
 
 -- what is promised of a word, Z and ZA before, the answer, Z and ZA after
 abbrev pub Promise : Type 1
@@ -43,6 +44,6 @@ AllDone (Refused r ∷ rs) = ⊥
 abbrev pub CallersSee : Type 0
 CallersSee =
     (s : Settings) (ws z za z₁ za₁ z₂ za₂ : List ℕ) (rs qs : List Executed) → Bytes z → Bytes za
-    → Calls (ExecutePromise s) ws z za rs z₁ za₁ → AllDone rs → EveryWord (NotSaturating s) ws → EveryWord (NotItsOwnSource s) ws
+    → Calls (ExecutePromise s) ws z za rs z₁ za₁ → AllDone rs → Each (NotSaturating s) ws → Each (NotItsOwnSource s) ws
     → Calls (UndoCalls s) (reverse ws) z₁ za₁ qs z₂ za₂
     → (qs ≡ reverse rs) × (z₂ ≡ z) × (za₂ ≡ za)

@@ -5,7 +5,7 @@ use mathlib.Core.Logic.{_≢_}
 use mathlib.Core.Bool.{true}
 use mathlib.Core.List.{List, [], _∷_, _++_}
 use lib.ListN.{length, take}
-use Rattle.laws.proofs.Lists.{Each}
+use Rattle.laws.specs.Lists.{Each}
 use Rattle.settings.specs.Valid.{validSettings}
 use Rattle.settings.specs.declared.Refusal.{Refusal}
 use Rattle.settings.specs.declared.Refusal.the-variants.{BadSettings, BadLength, UnknownWord, WrongMode, NoSuchWord, NoPartner, ListEnds, BadNumber, TooManyWords, ExtraBytes}

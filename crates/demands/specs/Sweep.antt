@@ -7,6 +7,7 @@ use mathlib.Core.Logic.{_≢_, _↔_}
 use mathlib.Core.Bool.{cond}
 use mathlib.Core.List.{List, [], _∷_, map, reverse}
 use lib.Dec.{eqb}
+use Rattle.laws.specs.Lists.{Each}
 use Rattle.settings.specs.declared.Settings.{Settings}
 use Rattle.words.specs.Decode.{decodePaper}
 use Rattle.words.specs.Partner.{partnerPaper}
@@ -38,10 +39,6 @@ abbrev pub AcceptedInTurn : PerWord → List ℕ → List ℕ → List ℕ → T
 AcceptedInTurn each [] z za = Unit {0}
 AcceptedInTurn each (w ∷ ws) z za = (each w z za .number ≡ 0) × AcceptedInTurn each ws (each w z za .z) (each w z za .za)
 
-abbrev pub EveryWord : (ℕ → Type 0) → List ℕ → Type 0
-EveryWord P [] = Unit {0}
-EveryWord P (w ∷ ws) = P w × EveryWord P ws
-
 -- "none saturating": what decodes is not of family C
 abbrev pub NotSaturating : Settings → ℕ → Type 0
 NotSaturating s w = (f : Fields) → decodePaper s w ≡ (0, f) → f .family ≢ Saturating
@@ -72,7 +69,7 @@ Closes s ws z za = back s ws z za ≡ record { z = z; za = za; reports = reverse
 abbrev pub SweepCloses : Type 0
 SweepCloses =
     (s : Settings) (ws z za : List ℕ) → Bytes z → Bytes za
-    → AcceptedInTurn (executePaper s) ws z za → EveryWord (NotSaturating s) ws → EveryWord (NotItsOwnSource s) ws
+    → AcceptedInTurn (executePaper s) ws z za → Each (NotSaturating s) ws → Each (NotItsOwnSource s) ws
     → Closes s ws z za
 
 -- ---- what it says of the partners

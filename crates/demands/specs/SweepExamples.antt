@@ -3,6 +3,7 @@
 use Prim.Native.Nat.{ℕ}
 use mathlib.Core.Path.{_≡_, refl}
 use mathlib.Core.List.{List, [], _∷_, map}
+use Rattle.laws.specs.Lists.{Each}
 use Rattle.settings.specs.Valid.{validSettings, vectorBytes, arrayBytes}
 use Rattle.settings.specs.declared.Settings.{Settings}
 use Rattle.words.specs.Says.{describe}
@@ -16,7 +17,7 @@ use Rattle.recipes.specs.Element.{newElement, newBytes}
 use Rattle.machine.specs.Step.{register, newRegister, zAfter, stride, selected, firstVector, writesVector, newVector, zaAfter}
 use Rattle.machine.specs.Execute.{stepped, executeFields, executePaper}
 use Rattle.machine.specs.Run.{Report, runOf}
-use Rattle.demands.specs.Sweep.{there, undoPaper, back, AcceptedInTurn, EveryWord, NotSaturating, NotItsOwnSource, Closes}
+use Rattle.demands.specs.Sweep.{there, undoPaper, back, AcceptedInTurn, NotSaturating, NotItsOwnSource, Closes}
 
 -- ---- sweeps, at VL 128
 
@@ -143,10 +144,10 @@ abbrev pub AllAccepted : Given → Type 0
 AllAccepted g = AcceptedInTurn (executePaper (settings g)) (g .words) (startZ g) startZa
 
 abbrev pub NoneSaturating : Given → Type 0
-NoneSaturating g = EveryWord (NotSaturating (settings g)) (g .words)
+NoneSaturating g = Each (NotSaturating (settings g)) (g .words)
 
 abbrev pub NoneItsOwnSource : Given → Type 0
-NoneItsOwnSource g = EveryWord (NotItsOwnSource (settings g)) (g .words)
+NoneItsOwnSource g = Each (NotItsOwnSource (settings g)) (g .words)
 
 -- the first meets every premise, so the premises can be met together; and it closes
 abbrev pub AllMet : Type 0

@@ -9,7 +9,7 @@ use native.Mathlib.Decide.{decLe}
 use native.Mathlib.Omega.{arith}
 use lib.ListN.{length, getD, take, drop, length-append, length-take, length-drop, take-append-drop}
 use lib.Seq.{take-all, take-add, take-at, drop-at, drop-drop, take-append-le, drop-append-le, length-take-le, getD-take, getD-drop, ext-getD}
-use Rattle.laws.proofs.Tests.{cond-holds, never-both}
+use Rattle.laws.proofs.Tests.{cond-holds, cond-then, never-both}
 use Rattle.elements.specs.Elements.{splice}
 use Rattle.elements.specs.Files.{vectorAt, laid, renewed, replaced}
 use Rattle.elements.proofs.Elements.{Bytes, Bytes-take, Bytes-drop, Bytes-splice}
@@ -164,11 +164,7 @@ pub renewed-cong : (writes : ℕ → Bool) (new new′ : ℕ → List ℕ) (w n 
     → renewed writes new w n s ≡ renewed writes new′ w n s
 unfolding renewed
 renewed-cong writes new new′ w n s h =
-    laid-cong (λ v. cond (writes v) (new v) (vectorAt w v s)) (λ v. cond (writes v) (new′ v) (vectorAt w v s)) n (λ v l. by (writes v) (vectorAt w v s) (h v l))
-  where
-    by : {x y : List ℕ} (b : Bool) (t : List ℕ) → (b ≡ true → x ≡ y) → cond b x t ≡ cond b y t
-    by true t e = e refl
-    by false t e = refl
+    laid-cong (λ v. cond (writes v) (new v) (vectorAt w v s)) (λ v. cond (writes v) (new′ v) (vectorAt w v s)) n (λ v l. cond-then (writes v) (new v) (new′ v) (vectorAt w v s) (h v l))
 
 -- what was written is undone by writing what was there
 pub renewed-undone : (writes : ℕ → Bool) (new again : ℕ → List ℕ) (w n : ℕ) (s : List ℕ) → length s ≡ n * w

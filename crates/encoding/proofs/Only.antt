@@ -3,38 +3,25 @@
 use Prim.Native.Nat.{ℕ, zero, suc, _+_, _*_, _/_, _%_, _^_, _<_}
 use native.Mathlib.Nat.{mod-eq-of-lt}
 use native.Mathlib.Omega.{arith}
-use mathlib.Core.Path.{_≡_, refl, subst, _∙_}
-use mathlib.Core.List.{List, [], _∷_}
+use mathlib.Core.Path.{_≡_, refl, _∙_}
+use mathlib.Core.List.{List}
 use mathlib.Core.Bool.{true, false}
 use lib.Dec.{eqb}
 use borrow.Author.Tests.{eqb-true, eqb-false, not-false}
-use Rattle.laws.proofs.Lists.{Each}
-use Rattle.laws.proofs.Tests.{by-cond, cond-holds, either, never-both}
+use Rattle.laws.proofs.Tests.{cond-holds, either, never-both}
 use Rattle.layouts.specs.Layout.{Layout, size, matches, value, build}
 use Rattle.layouts.proofs.Inverse.{Agrees, build-agrees}
 use Rattle.words.specs.Rows.{rowA, rowB, rowC16, rowC32, rowD2, rowD4, rowE2, rowE4}
 use Rattle.words.specs.Numbers.{bitOf}
 use Rattle.words.proofs.Numbers.{number-bit}
-use Rattle.words.specs.Says.{As, isOne, Row, entry, entryA, entryB, table, saysFirst, describe, fieldsA16, fieldsA32, fieldsB, fieldsC, fieldsD, fieldsE}
+use Rattle.words.specs.Says.{As, isOne, Row, entry, entryA, entryB, describe, fieldsA16, fieldsA32, fieldsB, fieldsC, fieldsD, fieldsE}
 use Rattle.words.specs.declared.Fields.{Fields}
-use Rattle.words.proofs.Table.{found, never}
+use Rattle.words.proofs.Table.{WhereSaid, said-each}
 use Rattle.encoding.specs.Candidate.{candidateOf, valuesA16, valuesA32, valuesB, valuesC16, valuesC32, valuesD, valuesE}
-
--- ---- from the rows to the table
 
 -- a word of the row that is not reserved is the candidate of its fields
 abbrev Undone : Row → ℕ → Type 0
-Undone r w = matches (r .layout) w ≡ true → r .reserved w ≡ false → candidateOf (r .fields w) ≡ w
-
-undone : (rs : List Row) (w : ℕ) (f : Fields) → Each (λ (r : Row). Undone r w) rs → saysFirst rs w ≡ As f → candidateOf f ≡ w
-undone [] w f k e = absurd (never f e)
-undone (r ∷ rs) w f k e =
-    by-cond (matches (r .layout) w) _ _ _
-    (λ m. by-cond (r .reserved w) _ _ _
-    (λ _ d. absurd (never f d))
-    (λ n d. subst (λ (g : Fields). candidateOf g ≡ w) (found (r .fields w) f d) (k .0 m n)))
-    (λ _. undone rs w f (k .1))
-    e
+Undone r w = WhereSaid (λ (g : Fields). candidateOf g ≡ w) w r
 
 -- ---- the numbers of the fields
 
@@ -122,11 +109,8 @@ module _ (w : ℕ) (lt : w < 2 ^ 32) where
   e4-undone : Undone (entry rowE4 (fieldsE rowE4 4)) w
   e4-undone m _ = one-row rowE4 (valuesE (fieldsE rowE4 4 w) 4 8) refl m (omega (arith, unsigned-za, subtract-za))
 
-  all-undone : Each (λ (r : Row). Undone r w) table
-  all-undone =
-      (a-undone, (b-undone, (c16-undone, (c32-undone, (d2-undone, (d4-undone, (e2-undone, (e4-undone, tt))))))))
-
 -- a word with the fields f is the candidate of f
 pub only : (f : Fields) (w : ℕ) → w < 2 ^ 32 → describe w ≡ As f → candidateOf f ≡ w
-unfolding describe
-only f w lt = undone table w f (all-undone w lt)
+only f w lt =
+    said-each (λ (g : Fields). candidateOf g ≡ w) w f
+    (a-undone w lt, (b-undone w lt, (c16-undone w lt, (c32-undone w lt, (d2-undone w lt, (d4-undone w lt, (e2-undone w lt, (e4-undone w lt, tt))))))))

@@ -8,8 +8,7 @@ use mathlib.Core.List.{List, List·Memᴰ, List·Memᴰ·head as here, List·Mem
 use mathlib.Core.Bool.{Bool, true, false, not, _||_, cond}
 use lib.Dec.{eqb}
 use lib.ListN.{getD}
-use borrow.Author.Tests.{eqb-true}
-use Rattle.laws.proofs.Tests.{either, failed, never-both, cond-holds}
+use Rattle.laws.proofs.Tests.{by-three, failed, never-both, cond-holds}
 use Rattle.layouts.specs.Layout.{Layout, size, matches, value, parts, build}
 use Rattle.layouts.proofs.Inverse.{Fit, parts-build}
 use Rattle.words.specs.Rows.{rowA, rowB, rowC16, rowC32, rowD2, rowD4, rowE2, rowE4}
@@ -103,15 +102,7 @@ a f w vs fit o e =
 -- B: the ss of each of its lanes is not reserved, and gives the lane back
 lane-back : (lane : ℕ) → laneB lane ≡ true → (eqb (lane / 16 % 4) 0b11 ≡ false) × (8 * 2 ^ (lane / 16 % 4) ≡ lane)
 lane-back lane l =
-    either (eqb lane 8 || eqb lane 16) (eqb lane 32) l
-    (λ p. either (eqb lane 8) (eqb lane 16) p (λ q. is 8 q (refl, refl)) (λ q. is 16 q (refl, refl)))
-    (λ q. is 32 q (refl, refl))
-  where
-    Back : ℕ → Type 0
-    Back n = (eqb (n / 16 % 4) 0b11 ≡ false) × (8 * 2 ^ (n / 16 % 4) ≡ n)
-
-    is : (n : ℕ) → eqb lane n ≡ true → Back n → Back lane
-    is n q = subst Back (sym (eqb-true lane n q))
+    by-three lane 8 16 32 l (λ (n : ℕ). (eqb (n / 16 % 4) 0b11 ≡ false) × (8 * 2 ^ (n / 16 % 4) ≡ n)) (refl, refl) (refl, refl) (refl, refl)
 
 b : (f : Fields) (w : ℕ) → laneB (f .lane) ≡ true → w ≡ build rowB (valuesB f) → sameOf f (vector w (f .lane)) ≡ saysOnly f (describe w)
 b f w l e =

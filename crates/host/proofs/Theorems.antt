@@ -1,14 +1,13 @@
 -- The statements of specs/Theorems.antt, proved. Assumes nothing.
-use Prim.Native.Nat.{ℕ, zero, suc, _+_, _^_}
+use Prim.Native.Nat.{ℕ, _^_}
 use native.Mathlib.Nat.{div-add-mod'}
 use native.Mathlib.Omega.{arith}
 use mathlib.Core.Path.{_≡_, sym, ap, _∙_}
 use mathlib.Core.Bool.{true}
-use mathlib.Core.List.{List, [], _∷_}
-use lib.Dec.{eqb, leb}
-use lib.ListN.{length, getD, drop, drop-of-length-le}
-use lib.Seq.{drop-cons}
+use mathlib.Core.List.{List}
+use lib.ListN.{length, getD}
 use borrow.Author.Tests.{ne-eqb, leb-true, le-leb}
+use Rattle.laws.proofs.Lists.{elements, elements-are}
 use Rattle.laws.proofs.Tests.{both, by-cond}
 use Rattle.words.specs.Decode.{decodePaper}
 use Rattle.words.specs.declared.Fields.{Fields}
@@ -40,17 +39,6 @@ unfolding fieldsOf
 fields-back f =
     let g = family-range (f .family) in
     rw (le-leb _ _ (g .0), le-leb _ _ (g .1), le-leb _ _ (bit-range (f .unsigned)), le-leb _ _ (bit-range (f .subtract)), family-back (f .family), bit-back (f .unsigned), bit-back (f .subtract))
-
--- the k elements from `at` on
-elements : ℕ → ℕ → List ℕ → List ℕ
-elements zero at n = []
-elements (suc k) at n = getD n at 0 ∷ elements k (suc at) n
-
-elements-are : (k at : ℕ) (n : List ℕ) → at + k ≡ length n → elements k at n ≡ drop at n
-unfolding elements
-elements-are zero at n e = sym (drop-of-length-le n {i = at} (omega arith))
-elements-are (suc k) at n e =
-    ap (λ (l : List ℕ). getD n at 0 ∷ l) (elements-are k (suc at) n (omega arith)) ∙ sym (drop-cons n at 0 (omega arith))
 
 -- twelve numbers, of which the first three are in range
 numbers-are : (n : List ℕ) → length n ≡ 12 → areFields n ≡ true → fieldNumbers (fieldsWith (familyOf (getD n 0 0)) n) ≡ n

@@ -8,19 +8,15 @@ use mathlib.Core.List.{List}
 use lib.Dec.{lit≤}
 use lib.ListN.{take, replicate, length-replicate, replicate-append-replicate}
 use lib.Seq.{take-at}
-use Rattle.settings.proofs.Lengths.{by-length}
+use Rattle.settings.proofs.Lengths.{length-at-most}
 use Rattle.settings.specs.Valid.{validLength}
 use Rattle.numbers.specs.declared.Read.{Read}
 use Rattle.numbers.specs.declared.Read.the-variants.{Number}
 use Rattle.lamp.specs.Lamp.{linesOf, registerOf, registerBytes, printed}
 
--- 512 bits are the most
-most : (vl : ℕ) → validLength vl ≡ true → vl / 8 ≤ 64
-most vl v = by-length vl v (λ n. n / 8 ≤ 64) (lit≤ tt) (lit≤ tt) (lit≤ tt)
-
 module _ (first : Read) (vl next : ℕ) (e : first ≡ Number vl next) where
   pub register-valid : validLength vl ≡ true → (vl / 8 ≡ registerOf first) × (vl / 8 ≤ 64)
-  register-valid v = (sym (ap registerOf e ∙ rw v), most vl v)
+  register-valid v = (sym (ap registerOf e ∙ rw v), length-at-most vl v)
 
   pub register-not : validLength vl ≡ false → (0 ≡ registerOf first) × (0 ≤ 64)
   register-not v = (sym (ap registerOf e ∙ rw v), lit≤ tt)

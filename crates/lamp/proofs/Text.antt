@@ -19,18 +19,16 @@ use Rattle.runlist.specs.declared.Words.{Words}
 use Rattle.runlist.specs.declared.Words.the-variants as words
 use Rattle.runlist.specs.declared.Front.the-variants as begun
 use Rattle.runlist.specs.declared.RunAnswer.the-variants.{Ran, Refused}
+use Rattle.runlist.proofs.Plans.{not-refused}
 use Rattle.demands.proofs.Lists.{lengths-hold}
 use Rattle.lines.specs.Lines.{refusedLine, ranLines}
 use Rattle.lamp.specs.Lamp.{wordsOf, textOf, linesOf, WordsAgain}
 
 -- ---- the words, read again
 
-no-such : (r : Refusal) (p : ℕ) (a : Asked) → refused r p ≡ found a → ⊥
-no-such r p a e = let no : _≡_ {A = ℕ} 0 1 = cc in omega arith
-
 module _ (list : List ℕ) (z za room : ℕ) (s : Settings) where
   pub none-again : (r : Refusal) (p : ℕ) (ws : List ℕ) → refused r p ≡ planOf list z za room → WordsAgain list z za room ws
-  none-again r p ws e a q = absurd (no-such r p a (e ∙ q))
+  none-again r p ws e a q = not-refused a r p (e ∙ q)
 
   -- they were read into the front of a room
   pub words-again : (at from n : ℕ) → frontSays (begun.Words at from n) s list z ≡ planOf list z za room
@@ -40,7 +38,7 @@ module _ (list : List ℕ) (z za room : ℕ) (s : Settings) where
       let is : part ≡ a .words = ap wordsOf (ap (asking s (take z (drop at list))) d ∙ e ∙ q) in
       take-at part rest (length (a .words)) (ap length is) ∙ is
   words-again at from n e (words.Refused r p) part rest d a q =
-      absurd (no-such r p a (ap (asking s (take z (drop at list))) d ∙ e ∙ q))
+      not-refused a r p (ap (asking s (take z (drop at list))) d ∙ e ∙ q)
 
 -- ---- a list that ran was accepted
 

@@ -69,7 +69,7 @@ below j k {a} {b} ha hb =
 
 -- ---- adding to the accumulator
 
--- what `wrapping_add` and `wrapping_sub` ensure
+-- what `wrapping_add_u16` and `wrapping_sub_u16` ensure, and those of 32 and 64 bits
 pub added : (n : ℕ) (s : Bool) (a m r : ℕ) → s ≡ false → r ≡ (a + m) % 2 ^ n → r ≡ low n (pos a +ℤ value s m)
 unfolding value
 added n s a m r e h = rw e (h ∙ sym (low-pos n (a + m)))

@@ -1,10 +1,10 @@
 -- Tests and choices: what a test that passed says of its parts, and a choice by a test. Assumes nothing.
-use mathlib.Core.Path.{_≡_, refl, sym}
-use mathlib.Core.Bool.{Bool, true, false, not, _&&_, _||_, cond}
+use mathlib.Core.Path.{_≡_, refl}
+use mathlib.Core.Bool.{Bool, true, false, _&&_, _||_, cond}
 use native.Mathlib.Omega.{arith}
 use Prim.Native.Nat.{ℕ, _<_, _≤_}
 use lib.Dec.{eqb, ltb}
-use borrow.Author.Tests.{eq-eqb, ne-eqb, ltb-true, ltb-false}
+use borrow.Author.Tests.{eqb-true, eq-eqb, ne-eqb, ltb-true, ltb-false}
 
 -- both parts of a conjunction that passed
 pub both : (s t : Bool) → (s && t) ≡ true → (s ≡ true) × (t ≡ true)
@@ -40,6 +40,11 @@ pub cond-holds {ℓ} : {A : Type 0} (P : A → Type ℓ) (b : Bool) (x y : A) �
 cond-holds P true x y k l = k refl
 cond-holds P false x y k l = l refl
 
+-- the first value of a choice counts only where the test passed
+pub cond-then : {A : Type 0} (b : Bool) (x x′ y : A) → (b ≡ true → x ≡ x′) → cond b x y ≡ cond b x′ y
+cond-then true x x′ y h = h refl
+cond-then false x x′ y h = refl
+
 -- one part of a disjunction that passed
 pub either {ℓ} : {P : Type ℓ} (s t : Bool) → (s || t) ≡ true → (s ≡ true → P) → (t ≡ true → P) → P
 either true t e k l = k refl
@@ -53,11 +58,9 @@ by-lt {P} a b f g = go (ltb a b) refl
     go true e = f (ltb-true a b e)
     go false e = g (ltb-false a b e)
 
--- a test that is turned round
-pub refuted : (b : Bool) → not b ≡ true → b ≡ false
-refuted true e = sym e
-refuted false e = refl
-
-pub upheld : (b : Bool) → not b ≡ false → b ≡ true
-upheld true e = refl
-upheld false e = sym e
+-- what holds of three numbers holds of one that is among them
+pub by-three : (n a b c : ℕ) → (eqb n a || eqb n b || eqb n c) ≡ true → (P : ℕ → Type 0) → P a → P b → P c → P n
+by-three n a b c e P pa pb pc =
+    either (eqb n a || eqb n b) (eqb n c) e
+    (λ t. either (eqb n a) (eqb n b) t (λ q. rw (eqb-true n a q) pa) (λ q. rw (eqb-true n b q) pb))
+    (λ q. rw (eqb-true n c q) pc)

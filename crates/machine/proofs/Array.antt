@@ -1,5 +1,5 @@
 -- The ZA vectors of a word: where they are, and that writing one after the other comes to ZA after the step. Assumes nothing.
-use Prim.Native.Nat.{ℕ, _+_, _-_, _*_, _/_, _%_, _<_}
+use Prim.Native.Nat.{ℕ, _+_, _-_, _*_, _/_, _%_, _≤_, _<_}
 use native.Mathlib.Nat.{mod-lt}
 use native.Mathlib.Omega.{arith}
 use mathlib.Core.Path.{_≡_, refl, ap, _∙_, subst}
@@ -54,6 +54,17 @@ over-numbers w group k x v = go
     go (inl h) = grid (w / group) refl (rw h (omega (arith, v .whole))) (rw h (omega (arith, v .least))) (rw h (omega (arith, v .whole)))
     go (inr h) = grid (w / group) refl (rw h (omega (arith, v .whole))) (rw h (omega (arith, v .least))) (rw h (omega (arith, v .whole)))
 
+-- the first n of a word's vectors are there, and the new ones are as long
+pub placed-to : (f : Fields) {w stride k first : ℕ} → VectorLength w → Grid w (f .group) stride k first → (z za : List ℕ) → length za ≡ w * w
+    → (n : ℕ) → n ≤ f .group * k → Placed (place first stride k) (fresh f w first stride k z za) w w n za
+unfolding fresh
+placed-to f {w} v g z za long n h =
+    record {
+      long = long;
+      inside = λ q l. place-lt g q (omega arith);
+      wide = λ q l. length-newBytes _ w _ _ _ (omega (arith, v .whole));
+    }
+
 module _ (s : Settings) (v : VectorLength (arrayBytes s)) (f : Fields) (g : Ranges f) (za : IntoZa f) where
   numbers : Grid (arrayBytes s) (f .group) (stride s f) (perSource (f .family)) (firstVector s f) × (firstVector s f % perSource (f .family) ≡ 0)
   unfolding stride selected firstVector
@@ -93,13 +104,7 @@ module _ (s : Settings) (v : VectorLength (arrayBytes s)) (f : Fields) (g : Rang
     new = fresh f w (firstVector s f) (stride s f) k z a
 
     pub placed : Placed at new w w (f .group * k) a
-    unfolding fresh
-    placed =
-        record {
-          long = long;
-          inside = place-lt grid;
-          wide = λ q h. length-newBytes _ w _ _ _ (omega (arith, v .whole));
-        }
+    placed = placed-to f v grid z a long (f .group * k) (omega arith)
 
     names : Names at (which grid) (writesVector s f) w (f .group * k)
     names =

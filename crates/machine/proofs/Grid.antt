@@ -33,10 +33,10 @@ module _ {w group stride k first : ℕ} (g : Grid w group stride k first) where
 
   -- ---- the same by the number q of a vector, r·k + i
 
-  i-lt : (q : ℕ) → q % k < k
+  pub i-lt : (q : ℕ) → q % k < k
   i-lt q = mod-lt q (g .some)
 
-  r-lt : (q : ℕ) → q < group * k → q / k < group
+  pub r-lt : (q : ℕ) → q < group * k → q / k < group
   r-lt q h = div-lt-iff-lt-mul (g .some) .1 h
 
   pub place-lt : (q : ℕ) → q < group * k → place first stride k q < w
@@ -56,7 +56,11 @@ module _ {w group stride k first : ℕ} (g : Grid w group stride k first) where
   unfoldable pub Written : ℕ → Type 0
   Written v = (first ≤ v % stride) × (v % stride < first + k)
 
-  -- a vector that is written, by its r and i
+  -- the vectors that are written are those with an r and an i
+  pub row-written : (r i : ℕ) → i < k → Written (first + r * stride + i)
+  unfolding Written
+  row-written r i h = let e = within-row r i h in (omega (arith, e), omega (arith, e))
+
   pub by-row : (v : ℕ) → v < w → Written v → (v / stride < group) × (v % stride - first < k) × (first + v / stride * stride + (v % stride - first) ≡ v)
   unfolding Written
   by-row v h y =
@@ -81,7 +85,5 @@ module _ {w group stride k first : ℕ} (g : Grid w group stride k first) where
       ap₂ (λ (a b : ℕ). first + a * stride + b) (r .0) (r .1) ∙ by-row v h y .2
 
   pub place-written : (q : ℕ) → Written (place first stride k q)
-  unfolding Written place
-  place-written q =
-      let e = within-row (q / k) (q % k) (i-lt q) in
-      (omega (arith, e), omega (arith, e, i-lt q))
+  unfolding place
+  place-written q = row-written (q / k) (q % k) (i-lt q)

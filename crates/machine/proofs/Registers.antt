@@ -1,5 +1,5 @@
 -- The Z register of a word: writing its new bytes comes to Z after the step. Assumes nothing.
-use Prim.Native.Nat.{ℕ, _+_, _*_, _%_, _≤_}
+use Prim.Native.Nat.{ℕ, _+_, _*_, _≤_}
 use native.Mathlib.Omega.{arith}
 use mathlib.Core.Path.{_≡_, refl, sym, ap, _∙_}
 use mathlib.Core.List.{List, _++_}
@@ -10,8 +10,6 @@ use Rattle.settings.specs.Lengths.{VectorLength}
 use Rattle.settings.specs.Valid.{vectorBytes}
 use Rattle.settings.specs.declared.Settings.{Settings}
 use Rattle.words.specs.Ranges.{Ranges}
-use Rattle.words.specs.declared.Family.{Family}
-use Rattle.words.specs.declared.Family.the-variants.{ByElement, Vector, Saturating, LongLong, Long}
 use Rattle.words.specs.declared.Fields.{Fields}
 use Rattle.elements.specs.Elements.{splice}
 use Rattle.elements.specs.Files.{vectorAt, replaced}
@@ -19,15 +17,8 @@ use Rattle.elements.proofs.Files.{next, room, length-vectorAt, splice-part, rep
 use Rattle.recipes.specs.Recipe.{recipeOf, newLength}
 use Rattle.recipes.specs.Element.{newBytes}
 use Rattle.recipes.proofs.Built.{length-newBytes}
+use Rattle.recipes.proofs.Inside.{new-length}
 use Rattle.machine.specs.Step.{register, newRegister, zAfter}
-
--- the new bytes are whole elements, and no more than the register's
-pub new-length : (family : Family) (w : ℕ) → VectorLength w → (newLength family w % 8 ≡ 0) × (newLength family w ≤ w)
-new-length ByElement w v = (refl, v .least)
-new-length Vector w v = (refl, v .least)
-new-length Saturating w v = (omega (arith, v .whole), omega arith)
-new-length LongLong w v = (omega (arith, v .whole), omega arith)
-new-length Long w v = (omega (arith, v .whole), omega arith)
 
 module _ (s : Settings) (v : VectorLength (vectorBytes s)) (f : Fields) (g : Ranges f) (z : List ℕ) (long : length z ≡ 32 * vectorBytes s) where
   abbrev w : ℕ

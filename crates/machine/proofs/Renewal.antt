@@ -23,15 +23,19 @@ use Rattle.recipes.proofs.Inside.{Inside, inside}
 use Rattle.recipes.proofs.Built.{newBytes-within}
 use Rattle.machine.specs.Loop.{made, IntoV, IntoZa, Sources, Places}
 
+-- ZA has 65,536 bytes at most
+pub array-small : {w : ℕ} → VectorLength w → w * w ≤ 65536
+array-small {w} v = omega (arith, mul-le-mul-right w (v .most), v .most)
+
+pub array-small-by : {w : ℕ} → VectorLength w → (x : ℕ) → x ≡ w → x * x ≤ 65536
+array-small-by v x e = rw e (array-small v)
+
 -- one of the 32 registers ends by byte 8,192; one of the vectors of ZA by byte 65,536
 pub register-small : {w : ℕ} → VectorLength w → (x : ℕ) → x < 32 → x * w + w ≤ 8192
 register-small {w} v x h = omega (arith, within x 32 w h, v .most)
 
 pub vector-small : {w : ℕ} → VectorLength w → (x : ℕ) → x < w → x * w + w ≤ 65536
-vector-small {w} v x h =
-    let a : x * w + w ≤ w * w = within x w w h in
-    let b : w * w ≤ 256 * w = mul-le-mul-right w (v .most) in
-    omega (arith, v .most)
+vector-small {w} v x h = omega (arith, within x w w h, array-small v)
 
 pub two-or-four : {n : ℕ} → (n ≡ 2) ⊎ (n ≡ 4) → 0 < n
 two-or-four (inl e) = omega arith
@@ -132,10 +136,3 @@ whole-vector {f} {w} p = by (p .into)
     by : IntoZa f → newLength (f .family) w ≡ w
     by (inl e) = ap (λ (x : Family). newLength x w) e
     by (inr e) = ap (λ (x : Family). newLength x w) e
-
--- ZA has 65,536 bytes at most
-pub array-small : {w : ℕ} → VectorLength w → w * w ≤ 65536
-array-small {w} v = omega (arith, mul-le-mul-right w (v .most), v .most)
-
-pub array-small-by : {w : ℕ} → VectorLength w → (x : ℕ) → x ≡ w → x * x ≤ 65536
-array-small-by v x e = rw e (array-small v)

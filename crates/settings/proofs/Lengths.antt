@@ -1,10 +1,9 @@
 -- The lengths that valid settings give. Assumes nothing.
 use Prim.Native.Nat.{ℕ, _*_, _/_, _≤_}
-use mathlib.Core.Path.{_≡_, refl, sym, subst}
-use mathlib.Core.Bool.{true, _&&_, _||_}
-use lib.Dec.{eqb, lit≤}
-use borrow.Author.Tests.{eqb-true}
-use Rattle.laws.proofs.Tests.{both, either}
+use mathlib.Core.Path.{_≡_, refl}
+use mathlib.Core.Bool.{true, _&&_}
+use lib.Dec.{lit≤}
+use Rattle.laws.proofs.Tests.{both, by-three}
 use Rattle.settings.specs.Lengths.{VectorLength}
 use Rattle.settings.specs.Valid.{validLength, validFeatures, validModes, validSettings, vectorBytes, arrayBytes}
 use Rattle.settings.specs.declared.Settings.{Settings}
@@ -20,13 +19,11 @@ valid-parts s v =
 
 -- what holds of the three lengths holds of every valid one
 pub by-length : (vl : ℕ) → validLength vl ≡ true → (P : ℕ → Type 0) → P 128 → P 256 → P 512 → P vl
-by-length vl l P a b c =
-    either (eqb vl 128 || eqb vl 256) (eqb vl 512) l
-    (λ p. either (eqb vl 128) (eqb vl 256) p (λ q. is 128 q a) (λ q. is 256 q b))
-    (λ q. is 512 q c)
-  where
-    is : (n : ℕ) → eqb vl n ≡ true → P n → P vl
-    is n q = subst P (sym (eqb-true vl n q))
+by-length vl = by-three vl 128 256 512
+
+-- 512 bits are the most
+pub length-at-most : (vl : ℕ) → validLength vl ≡ true → vl / 8 ≤ 64
+length-at-most vl l = by-length vl l (λ n. n / 8 ≤ 64) (lit≤ tt) (lit≤ tt) (lit≤ tt)
 
 module _ (s : Settings) (v : validSettings s ≡ true) where
   by-vl : (P : ℕ → Type 0) → P 128 → P 256 → P 512 → P (s .vl)
@@ -47,10 +44,9 @@ module _ (s : Settings) (v : validSettings s ≡ true) where
   unfolding arrayBytes
   array-length = vector
 
-  -- 512 bits are the most that settings allow
   pub vector-at-most : vectorBytes s ≤ 64
   unfolding vectorBytes
-  vector-at-most = by-vl (λ vl. vl / 8 ≤ 64) (lit≤ tt) (lit≤ tt) (lit≤ tt)
+  vector-at-most = length-at-most (s .vl) (valid-parts s v .0)
 
   -- the bytes are VL
   pub vector-bits : 8 * vectorBytes s ≡ s .vl

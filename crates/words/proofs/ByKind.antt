@@ -8,9 +8,9 @@ use mathlib.Core.Bool.{true, false}
 use Rattle.laws.proofs.Tests.{never-both}
 use Rattle.layouts.proofs.Apart.{other-top}
 use Rattle.words.specs.Rows.{rowC16, rowC32, rowD2, rowD4, rowE2, rowE4}
-use Rattle.words.specs.Says.{Described, As, Nothing, fieldsB, tableZa, saysFirst, describe}
+use Rattle.words.specs.Says.{Described, As, Nothing, fieldsB, tableC, tableZa, saysFirst, describe}
 use Rattle.words.specs.Decode.{enables, enablesFamily, noFields, enabledOnly, decodeEnabled}
-use Rattle.words.specs.Kinds.{saysAs, fieldsSaid, fieldsAs, familyAs, tableC, enablesSaid, answerTo}
+use Rattle.words.specs.Kinds.{saysAs, fieldsSaid, fieldsAs, familyAs, enablesSaid, answerTo}
 use Rattle.words.specs.declared.Kind.{Kind}
 use Rattle.words.specs.declared.Kind.the-variants as kind
 use Rattle.words.proofs.Ranges.{in-range}

@@ -7,7 +7,7 @@ use mathlib.Core.List.{List, [], _∷_, List·Memᴰ, List·Memᴰ·head, List·
 use mathlib.Core.Bool.{true, false}
 use lib.Bits.{bitXor, xor-lt}
 use lib.Dec.{lit<}
-use Rattle.laws.proofs.Lists.{Each}
+use Rattle.laws.specs.Lists.{Each}
 use Rattle.laws.proofs.Tests.{both, failed, by-cond}
 use Rattle.laws.proofs.Bits.{xor-twice}
 use Rattle.layouts.specs.Layout.{matches, flip, maskOf}

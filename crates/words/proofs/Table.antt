@@ -6,6 +6,8 @@ use mathlib.Core.Path.{_≡_, refl, sym, ap, _∙_, subst}
 use mathlib.Core.List.{List, [], _∷_, map, List·Memᴰ, List·Memᴰ·head, List·Memᴰ·tail, List·Memᴰ·not-nil, List·Memᴰ·cases-cons}
 use mathlib.Core.Logic.{⊎-elim, _↔_}
 use mathlib.Core.Bool.{true, false}
+use Rattle.laws.specs.Lists.{Each}
+use Rattle.laws.proofs.Lists.{each-of}
 use Rattle.laws.proofs.Tests.{both, failed, by-cond}
 use Rattle.layouts.specs.Layout.{Layout, size, matches}
 use Rattle.layouts.proofs.Apart.{apart, apartFrom, allApart, no-word-in-both}
@@ -79,9 +81,6 @@ first-said (r ∷ rs) w f =
     let s = first-said rs w f e in
     record { row = s .row; listed = List·Memᴰ·tail (s .listed); matching = s .matching; open-size = s .open-size; fields = s .fields })
 
-not-matching : (r : Row) (w : ℕ) → (matches (r .layout) w ≡ true → ⊥) → matches (r .layout) w ≡ false
-not-matching r w k = failed (matches (r .layout) w) k
-
 said-first : (rs : List Row) → allApart (layouts rs) ≡ true → (w : ℕ) (f : Fields) → SaidBy rs w f → saysFirst rs w ≡ As f
 said-first [] a w f s = absurd (List·Memᴰ·not-nil (s .listed))
 said-first (r ∷ rs) a w f s =
@@ -93,7 +92,7 @@ said-first (r ∷ rs) a w f s =
     let g : r .fields w ≡ f = subst (λ (y : Row). y .fields w ≡ f) e (s .fields) in
     rw (m, o) (ap As g))
     (λ (n : List·Memᴰ (s .row) rs).
-    let m : matches (r .layout) w ≡ false = not-matching r w (λ p. apart-from r (s .row) rs w (b .0) n p (s .matching)) in
+    let m : matches (r .layout) w ≡ false = failed (matches (r .layout) w) (λ p. apart-from r (s .row) rs w (b .0) n p (s .matching)) in
     rw m (said-first rs (b .1) w f (record { row = s .row; listed = n; matching = s .matching; open-size = s .open-size; fields = s .fields })))
     (List·Memᴰ·cases-cons (s .listed))
 
@@ -101,3 +100,13 @@ said-first (r ∷ rs) a w f s =
 pub described-exactly : (w : ℕ) (f : Fields) → (describe w ≡ As f) ↔ SaidBy table w f
 unfolding describe
 described-exactly w f = (first-said table w f, said-first table table-apart w f)
+
+-- P holds of what the row says of w, where it says anything
+abbrev pub WhereSaid : (Fields → Type 0) → ℕ → Row → Type 0
+WhereSaid P w r = matches (r .layout) w ≡ true → r .reserved w ≡ false → P (r .fields w)
+
+-- what holds of each row's fields holds of the word's
+pub said-each : (P : Fields → Type 0) (w : ℕ) (f : Fields) → Each (WhereSaid P w) table → describe w ≡ As f → P f
+said-each P w f k e =
+    let s = described-exactly w f .0 e in
+    subst P (s .fields) (each-of (WhereSaid P w) table (s .row) (s .listed) k (s .matching) (s .open-size))

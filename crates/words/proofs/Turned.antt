@@ -6,7 +6,7 @@ use mathlib.Core.Bool.{Bool, true, false, not, cond}
 use lib.Dec.{eqb}
 use lib.Bits.{bitXor}
 use Prim.Native.Char.{code}
-use Rattle.laws.proofs.Lists.{Each}
+use Rattle.laws.specs.Lists.{Each}
 use Rattle.layouts.specs.Layout.{flip, maskOf}
 use Rattle.layouts.proofs.Flipped.{spares, flipped-agrees}
 use Rattle.words.specs.Rows.{rowA, rowB, rowC16, rowC32, rowD2, rowD4, rowE2, rowE4}
@@ -21,8 +21,8 @@ not-one zero x h e = ap isOne (sym e)
 not-one (suc zero) x h e = ap isOne (sym e)
 not-one (suc (suc b)) x h e = absurd (omega arith)
 
--- S stands at bit p of the row, and is the field of place k; all other fields are kept. What a row says of the flipped word follows by
--- putting equals for equals
+-- w is the word. In each row S is one bit, which is flipped, and all other fields are kept. What the row says of the flipped word follows
+-- by putting equals for equals
 module _ (w : ℕ) where
   turnedA16 : fieldsA16 (flip rowA "S" w) ≡ turned (fieldsA16 w)
   unfolding turned

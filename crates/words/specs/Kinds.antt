@@ -1,9 +1,8 @@
 -- Only contracts and proofs use this: of what kind a word is, and what the kind says of the word.
 use Prim.Native.Nat.{ℕ}
 use mathlib.Core.Bool.{Bool, false}
-use mathlib.Core.List.{List, [], _∷_}
 use Rattle.words.specs.Rows.{rowC16, rowC32, rowD2, rowD4, rowE2, rowE4}
-use Rattle.words.specs.Says.{Described, As, Nothing, Row, entry, fieldsA16, fieldsA32, fieldsB, fieldsC, fieldsD, fieldsE}
+use Rattle.words.specs.Says.{Described, As, Nothing, fieldsA16, fieldsA32, fieldsB, fieldsC, fieldsD, fieldsE}
 use Rattle.words.specs.Decode.{enables, noFields}
 use Rattle.words.specs.declared.Family.{Family}
 use Rattle.words.specs.declared.Family.the-variants.{ByElement, Vector, Saturating, LongLong, Long}
@@ -46,10 +45,6 @@ familyAs kind.LongLong4 = LongLong
 familyAs kind.Long2 = Long
 familyAs kind.Long4 = Long
 familyAs kind.Nothing = ByElement
-
--- the rows of C
-abbrev pub tableC : List Row
-tableC = entry rowC16 (fieldsC rowC16 16) ∷ entry rowC32 (fieldsC rowC32 32) ∷ []
 
 -- whether the features enable a word that says this
 abbrev pub enablesSaid : ℕ → Described → Bool

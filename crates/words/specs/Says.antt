@@ -1,7 +1,7 @@
 -- Document 01, below the layouts: what a word of each row says, and which sizes are reserved.
 use Prim.Native.Nat.{ℕ, _+_, _*_, _^_}
 use mathlib.Core.Bool.{Bool, false, not, _||_, cond}
-use mathlib.Core.List.{List, [], _∷_}
+use mathlib.Core.List.{List, [], _∷_, _++_}
 use lib.Dec.{eqb}
 use Rattle.layouts.specs.Layout.{Layout, matches, value}
 use Rattle.words.specs.Rows.{rowA, rowB, rowC16, rowC32, rowD2, rowD4, rowE2, rowE4}
@@ -141,13 +141,17 @@ entryB = record { layout = rowB; reserved = reservedB; fields = fieldsB }
 abbrev pub entry : Layout → (ℕ → Fields) → Row
 entry layout fields = record { layout = layout; reserved = λ w. false; fields = fields }
 
+-- the rows of C
+abbrev pub tableC : List Row
+tableC = entry rowC16 (fieldsC rowC16 16) ∷ entry rowC32 (fieldsC rowC32 32) ∷ []
+
 -- the rows that write ZA
 abbrev pub tableZa : List Row
 tableZa =
     entry rowD2 (fieldsD rowD2 2) ∷ entry rowD4 (fieldsD rowD4 4) ∷ entry rowE2 (fieldsE rowE2 2) ∷ entry rowE4 (fieldsE rowE4 4) ∷ []
 
 abbrev pub table : List Row
-table = entryA ∷ entryB ∷ entry rowC16 (fieldsC rowC16 16) ∷ entry rowC32 (fieldsC rowC32 32) ∷ tableZa
+table = entryA ∷ entryB ∷ tableC ++ tableZa
 
 -- what a word of the row says
 abbrev pub saysOf : Row → ℕ → Described

@@ -1,7 +1,7 @@
 -- `host::fields_of` meets its contract. Assumes nothing.
 use mathlib.Core.Path.{ap, sym, _∙_}
 use borrow.Author.Needs.{needs}
-use Rattle.laws.proofs.Tests.{refuted, upheld}
+use borrow.Author.Tests.{not-true, not-false}
 use Rattle.words.specs.declared.Family.{Family}
 use Rattle.host.specs.Host.{fieldsWith}
 use Rattle.host.proofs.Put.{no-fields, some-fields}
@@ -12,7 +12,7 @@ are-fields-requires : tie.Need-are-fields-requires
 are-fields-requires c κs = search needs
 
 returns : tie.Need-returns
-returns c = no-fields _ (sym (c .before .are-fields .ensures) ∙ refuted _ (c .if1 .taken))
+returns c = no-fields _ (sym (c .before .are-fields .ensures) ∙ not-true _ (c .if1 .taken))
 
 element-copy-out-family-of : tie.Need-element-copy-out-family-of
 element-copy-out-family-of c = search needs
@@ -27,7 +27,7 @@ returns-2 : tie.Need-returns-2
 returns-2 c =
     let f = c .before in
     let e = f .before .before in
-    some-fields _ _ (sym (e .before .are-fields .ensures) ∙ upheld _ (e .if1 .left))
+    some-fields _ _ (sym (e .before .are-fields .ensures) ∙ not-false _ (e .if1 .left))
     (c .fields-with .ensures ∙ ap (λ (g : Family). fieldsWith g (e .before .before .args .numbers .now)) (f .family-of .ensures))
 
 pub fields-of-spec : {M : Type 1} → statement M

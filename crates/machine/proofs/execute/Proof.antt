@@ -1,7 +1,7 @@
 -- `machine::execute` meets its contract. Assumes nothing.
 use mathlib.Core.Path.{sym, _∙_}
 use borrow.Author.Needs.{needs}
-use Rattle.laws.proofs.Tests.{refuted, upheld}
+use borrow.Author.Tests.{not-true, not-false}
 use Rattle.machine.proofs.Executing.{not-valid, not-long, is-ready}
 use Rattle.machine.proofs.execute.Statement.{statement}
 use Rattle.machine.proofs.execute.Tie as tie
@@ -13,17 +13,17 @@ returns : tie.Need-returns
 returns c =
     let v = c .before in
     let s = v .before .before .before in
-    not-valid (s .args .settings) (s .args .z .now) (s .args .za .now) (s .args .word) (sym (v .valid .ensures) ∙ refuted _ (c .if1 .taken))
+    not-valid (s .args .settings) (s .args .z .now) (s .args .za .now) (s .args .word) (sym (v .valid .ensures) ∙ not-true _ (c .if1 .taken))
 
 right-lengths-requires : tie.Need-right-lengths-requires
-right-lengths-requires c κs = sym (c .before .valid .ensures) ∙ upheld _ (c .if1 .left)
+right-lengths-requires c κs = sym (c .before .valid .ensures) ∙ not-false _ (c .if1 .left)
 
 returns-2 : tie.Need-returns-2
 returns-2 c =
     let l = c .before in
     let v = l .before .before in
     let s = v .before .before .before in
-    not-long (s .args .settings) (s .args .z .now) (s .args .za .now) (s .args .word) (sym (v .valid .ensures) ∙ upheld _ (l .before .if1 .left)) (sym (l .right-lengths .ensures) ∙ refuted _ (c .if2 .taken))
+    not-long (s .args .settings) (s .args .z .now) (s .args .za .now) (s .args .word) (sym (v .valid .ensures) ∙ not-false _ (l .before .if1 .left)) (sym (l .right-lengths .ensures) ∙ not-true _ (c .if2 .taken))
 
 execute-word-requires : tie.Need-execute-word-requires
 execute-word-requires c κs =
@@ -31,7 +31,7 @@ execute-word-requires c κs =
     let l = i .before in
     let v = l .before .before in
     let s = v .before .before .before in
-    is-ready (s .args .settings) (s .args .z .now) (s .args .za .now) (sym (v .valid .ensures) ∙ upheld _ (l .before .if1 .left)) (sym (l .right-lengths .ensures) ∙ upheld _ (i .if2 .left))
+    is-ready (s .args .settings) (s .args .z .now) (s .args .za .now) (sym (v .valid .ensures) ∙ not-false _ (l .before .if1 .left)) (sym (l .right-lengths .ensures) ∙ not-false _ (i .if2 .left))
 
 same-length : tie.Need-same-length
 same-length c = search needs

@@ -1,7 +1,7 @@
 -- `machine::execute_kind` meets its contract. Assumes nothing.
 use mathlib.Core.Path.{_≡_, sym, ap, _∙_, subst}
 use borrow.Author.Needs.{needs}
-use Rattle.laws.proofs.Tests.{refuted, upheld}
+use borrow.Author.Tests.{not-true, not-false}
 use Rattle.words.specs.Kinds.{fieldsAs}
 use Rattle.words.specs.Ranges.{Ranges}
 use Rattle.words.specs.declared.Family.{Family}
@@ -34,7 +34,7 @@ permitted-requires c κs = search needs
 returns : tie.Need-returns
 returns c =
     let a = entry (c .before) .args in
-    not-permitted (a .settings) (a .z .now) (a .za .now) (fieldsAs (a .kind) (a .word)) (asked (c .before) ∙ refuted _ (c .if1 .taken))
+    not-permitted (a .settings) (a .z .now) (a .za .now) (fieldsAs (a .kind) (a .word)) (asked (c .before) ∙ not-true _ (c .if1 .taken))
 
 fields-of-requires : tie.Need-fields-of-requires
 fields-of-requires c κs = search needs
@@ -59,7 +59,7 @@ returns-2 c =
     let a = entry (i .before) .args in
     t .step .ensures
     ∙ ap (λ (g : Fields). stepped (a .settings) g (a .z .now) (a .za .now)) (f .fields-of .ensures)
-    ∙ is-permitted (a .settings) (a .z .now) (a .za .now) (fieldsAs (a .kind) (a .word)) (asked (i .before) ∙ upheld _ (i .if1 .left))
+    ∙ is-permitted (a .settings) (a .z .now) (a .za .now) (fieldsAs (a .kind) (a .word)) (asked (i .before) ∙ not-false _ (i .if1 .left))
 
 pub execute-kind-spec : {M : Type 1} → statement M
 execute-kind-spec =

@@ -3,7 +3,7 @@
 use mathlib.Core.Path.{sym, _∙_}
 use lib.Seq.{length-take-le}
 use borrow.Author.Needs.{needs}
-use Rattle.laws.proofs.Tests.{upheld}
+use borrow.Author.Tests.{not-false}
 use Rattle.sweeps.proofs.check_sweep.Statement.{statement}
 use Rattle.sweeps.proofs.check_sweep.Tie as tie
 
@@ -29,7 +29,7 @@ returns : tie.Need-returns
 returns c = search needs
 
 columns-of-requires : tie.Need-columns-of-requires
-columns-of-requires c κs = sym (c .before .valid .ensures) ∙ upheld _ (c .if1 .left)
+columns-of-requires c κs = sym (c .before .valid .ensures) ∙ not-false _ (c .if1 .left)
 
 slice-aggregate-not-checked-2 : tie.Need-slice-aggregate-not-checked-2
 slice-aggregate-not-checked-2 c = search needs
@@ -49,7 +49,7 @@ slice-aggregate-sweep c = sym (length-take-le _ _ (search needs))
 wrong-in-requires : tie.Need-wrong-in-requires
 wrong-in-requires c κs =
     let i = c .before .before .before .before .before .before .before in
-    search (needs, sym (i .before .valid .ensures) ∙ upheld _ (i .if1 .left))
+    search (needs, sym (i .before .valid .ensures) ∙ not-false _ (i .if1 .left))
 
 cast-t20 : tie.Need-cast-t20
 cast-t20 c = search needs

@@ -1,7 +1,7 @@
 -- `words::decode` meets its contract: the settings' test, then what the word's kind says, by the laws of ByKind.antt. Assumes nothing.
 use mathlib.Core.Path.{sym, _∙_}
 use borrow.Author.Needs.{needs}
-use Rattle.laws.proofs.Tests.{refuted, upheld}
+use borrow.Author.Tests.{not-true, not-false}
 use Rattle.words.specs.Decode.{decodePaper}
 use Rattle.words.proofs.ByKind.{kind-answer, kind-refused}
 use Rattle.words.proofs.decode.Statement.{statement}
@@ -13,7 +13,7 @@ valid-requires c κs = search needs
 returns : tie.Need-returns
 unfolding decodePaper
 returns c =
-    let v = sym (c .before .valid .ensures) ∙ refuted _ (c .if1 .taken) in
+    let v = sym (c .before .valid .ensures) ∙ not-true _ (c .if1 .taken) in
     rw v
 
 kind-of-requires : tie.Need-kind-of-requires
@@ -32,7 +32,7 @@ returns-2 c =
     let k = e .before in
     let n = k .before .before in
     let s = n .before .before in
-    let v = sym (n .before .valid .ensures) ∙ upheld _ (n .if1 .left) in
+    let v = sym (n .before .valid .ensures) ∙ not-false _ (n .if1 .left) in
     rw v
     (c .decoded-as .ensures ∙ sym (kind-answer (s .args .settings .features .0) (s .args .word) (k .kind-of .result) (k .kind-of .ensures) (sym (e .enables-kind .ensures) ∙ c .before .if2 .taken)))
 
@@ -43,7 +43,7 @@ returns-3 c =
     let k = e .before in
     let n = k .before .before in
     let s = n .before .before in
-    let v = sym (n .before .valid .ensures) ∙ upheld _ (n .if1 .left) in
+    let v = sym (n .before .valid .ensures) ∙ not-false _ (n .if1 .left) in
     rw v
     (sym (kind-refused (s .args .settings .features .0) (s .args .word) (k .kind-of .result) (k .kind-of .ensures) (sym (e .enables-kind .ensures) ∙ c .if2 .left)))
 

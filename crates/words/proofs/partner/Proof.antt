@@ -1,7 +1,7 @@
 -- `words::partner` meets its contract: the settings' test, then what the word's kind says, by the laws of Answers.antt. Assumes nothing.
 use mathlib.Core.Path.{sym, ap, _∙_}
 use borrow.Author.Needs.{needs}
-use Rattle.laws.proofs.Tests.{refuted, upheld}
+use borrow.Author.Tests.{not-true, not-false}
 use Rattle.words.specs.Sign.{partnerIn}
 use Rattle.words.specs.declared.Family.{Family}
 use Rattle.words.proofs.Answers.{partner-not-valid, partner-not-enabled, partner-by-kind}
@@ -14,7 +14,7 @@ valid-requires c κs = search needs
 returns : tie.Need-returns
 returns c =
     let v = c .before in
-    sym (partner-not-valid (v .before .args .settings) (v .before .args .word) (sym (v .valid .ensures) ∙ refuted _ (c .if1 .taken)))
+    sym (partner-not-valid (v .before .args .settings) (v .before .args .word) (sym (v .valid .ensures) ∙ not-true _ (c .if1 .taken)))
 
 kind-of-requires : tie.Need-kind-of-requires
 kind-of-requires c κs = search needs
@@ -37,7 +37,7 @@ returns-2 c =
     let s = n .before .before in
     c .partner-in .ensures
     ∙ ap (λ (family : Family). partnerIn family (s .args .word)) (f .kind-family .ensures)
-    ∙ sym (partner-by-kind (s .args .settings) (s .args .word) (k .kind-of .result) (sym (n .before .valid .ensures) ∙ upheld _ (n .if1 .left)) (k .kind-of .ensures) (sym (e .enables-kind .ensures) ∙ f .before .if2 .taken))
+    ∙ sym (partner-by-kind (s .args .settings) (s .args .word) (k .kind-of .result) (sym (n .before .valid .ensures) ∙ not-false _ (n .if1 .left)) (k .kind-of .ensures) (sym (e .enables-kind .ensures) ∙ f .before .if2 .taken))
 
 returns-3 : tie.Need-returns-3
 returns-3 c =
@@ -45,7 +45,7 @@ returns-3 c =
     let k = e .before in
     let n = k .before .before in
     let s = n .before .before in
-    sym (partner-not-enabled (s .args .settings) (s .args .word) (k .kind-of .result) (sym (n .before .valid .ensures) ∙ upheld _ (n .if1 .left)) (k .kind-of .ensures) (sym (e .enables-kind .ensures) ∙ c .if2 .left))
+    sym (partner-not-enabled (s .args .settings) (s .args .word) (k .kind-of .result) (sym (n .before .valid .ensures) ∙ not-false _ (n .if1 .left)) (k .kind-of .ensures) (sym (e .enables-kind .ensures) ∙ c .if2 .left))
 
 pub partner-spec : {M : Type 1} → statement M
 partner-spec =
