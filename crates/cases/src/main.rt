@@ -1,7 +1,7 @@
 // Holds execute to the answers that the second program, in C, gives for single executions. The cases and its answers
 // are on standard input, made by `second cases`; second/README.md has the line's columns and the kinds of contents.
 ghost use Prim.Native.Nat.{_<_};
-use machine::Executed;
+use machine::Reported;
 use words::Decoded;
 
 // Nineteen numbers of eight digits, and a space or the line's end after each.
@@ -44,34 +44,17 @@ fn checksum(bytes: &[u8]) -> u32 {
     sum
 }
 
-// What execute answers, with a refusal's number, or 0.
-struct Outcome {
-    refusal: u32,
-    toggled: u32,
-    written: u32,
-}
-
-fn executed(line: &[u8], z: &mut [u8], za: &mut [u8]) -> Outcome {
-    match machine::execute(
+// The three numbers of what execute answers.
+fn executed(line: &[u8], z: &mut [u8], za: &mut [u8]) -> Reported {
+    machine::report_of(machine::execute(
         stored::settings_of(line),
         stored::number_of(line, WORD),
         z,
         za,
-    ) {
-        Executed::Done(counts) => Outcome {
-            refusal: 0,
-            toggled: counts.toggled,
-            written: counts.written,
-        },
-        Executed::Refused(refusal) => Outcome {
-            refusal: settings::refusal_number(refusal),
-            toggled: 0,
-            written: 0,
-        },
-    }
+    ))
 }
 
-fn is_due(line: &[u8], got: Outcome) -> bool {
+fn is_due(line: &[u8], got: Reported) -> bool {
     (got.refusal == stored::number_of(line, REFUSAL))
         & (got.toggled == stored::number_of(line, TOGGLED))
         & (got.written == stored::number_of(line, WRITTEN))
@@ -79,16 +62,8 @@ fn is_due(line: &[u8], got: Outcome) -> bool {
 
 // Executes the line's word on its contents. A refusal must leave them, whatever the line's checksums are.
 fn is_right(line: &[u8], z: &mut [u8], za: &mut [u8]) -> bool {
-    stored::fill(
-        z,
-        stored::number_of(line, Z_CONTENTS),
-        stored::number_of(line, Z_CONTENTS + 1),
-    );
-    stored::fill(
-        za,
-        stored::number_of(line, ZA_CONTENTS),
-        stored::number_of(line, ZA_CONTENTS + 1),
-    );
+    stored::fill_from(line, Z_CONTENTS, z);
+    stored::fill_from(line, ZA_CONTENTS, za);
     let z_before = checksum(z);
     let za_before = checksum(za);
     let got = executed(line, z, za);
@@ -141,12 +116,6 @@ fn counted_with(line: &[u8]) -> u32 {
     }
 }
 
-fn one_if(fact: bool) -> usize
-    ensures { λ r. ⌜ r < 2 ⌝ }
-{
-    if fact { 1 } else { 0 }
-}
-
 fn print_count(count: usize, what: &[u8]) {
     io::print_decimal(1, count as u64);
     io::write_all(1, what);
@@ -157,7 +126,7 @@ fn count_with(list: &[u8], family: u32) -> usize {
     let mut at = 0;
     let mut count = 0;
     while list.len() - at >= LINE {
-        count += one_if(counted_with(&list[at..]) == family);
+        count += words::bit(counted_with(&list[at..]) == family) as usize;
         at += LINE;
     }
     count

@@ -1,6 +1,5 @@
 -- Which words execute accepts, how it refuses the others, and what then holds of every outcome. Assumes nothing.
-use Prim.Native.Nat.{ℕ, _*_, _<_}
-use native.Mathlib.Omega.{arith}
+use Prim.Native.Nat.{ℕ, _*_}
 use mathlib.Core.Path.{_≡_, refl, sym, ap, _∙_, subst}
 use mathlib.Core.Logic.{_⊎_, inl, inr, ⊎-elim, _≢_}
 use mathlib.Core.Bool.{Bool, true, false}
@@ -8,7 +7,9 @@ use mathlib.Core.List.{List}
 use lib.ListN.{length}
 use Rattle.laws.proofs.Tests.{failed, cond-holds}
 use Rattle.settings.specs.Valid.{validSettings, vectorBytes, arrayBytes}
+use Rattle.settings.specs.declared.Refusal.the-variants.{BadSettings, BadLength, UnknownWord, WrongMode}
 use Rattle.settings.specs.declared.Settings.{Settings}
+use Rattle.settings.proofs.Refusals.{not-0}
 use Rattle.words.specs.Says.{Described, As, Nothing, describe}
 use Rattle.words.specs.Decode.{enables, noFields, enabledOnly, decodeEnabled}
 use Rattle.words.specs.Ranges.{Ranges}
@@ -75,27 +76,24 @@ module _ (s : Settings) (w : ℕ) (z za : List ℕ) where
   abbrev pub IsRefused : Type 0
   IsRefused = (n : ℕ) × ((n ≢ 0) × (executePaper s w z za ≡ refusedWith n z za))
 
-  not-0 : (n : ℕ) → 0 < n → n ≢ 0
-  not-0 n h e = omega arith
-
   at-word : (f : Fields) → validSettings s ≡ true → rightLengths s (length z) (length za) ≡ true → decodeEnabled (s .features .0) w ≡ (0, f)
       → (p : Bool) → permits (s .features .0) (s .modes .0) (f .family) ≡ p → IsRefused ⊎ ((f : Fields) × Accepted s w f z za)
   at-word f v l d true p =
       let e = is-ready s z za v l in
       inr (f, record { valid = v; z-exact = e .z-long; za-exact = e .za-long; decodes = d; permitted = p })
-  at-word f v l d false p = inl (4, (not-0 4 (omega arith), refused-4 v l f d p))
+  at-word f v l d false p = inl (4, (not-0 WrongMode, refused-4 v l f d p))
 
   at-lengths : validSettings s ≡ true → (l : Bool) → rightLengths s (length z) (length za) ≡ l → IsRefused ⊎ ((f : Fields) × Accepted s w f z za)
-  at-lengths v false l = inl (2, (not-0 2 (omega arith), refused-2 v l))
+  at-lengths v false l = inl (2, (not-0 BadLength, refused-2 v l))
   at-lengths v true l =
       let d : ℕ × Fields = decodeEnabled (s .features .0) w in
       ⊎-elim
       (λ (e : d .0 ≡ 0). at-word (d .1) v l (ap (λ (n : ℕ). (n, d .1)) e) (permits (s .features .0) (s .modes .0) (d .1 .family)) refl)
-      (λ (e : d .0 ≡ 3). inl (3, (not-0 3 (omega arith), refused-3 v l 3 e (not-0 3 (omega arith)))))
+      (λ (e : d .0 ≡ 3). inl (3, (not-0 UnknownWord, refused-3 v l 3 e (not-0 UnknownWord))))
       (decoded-number (s .features .0) w)
 
   at-settings : (v : Bool) → validSettings s ≡ v → IsRefused ⊎ ((f : Fields) × Accepted s w f z za)
-  at-settings false v = inl (1, (not-0 1 (omega arith), refused-1 v))
+  at-settings false v = inl (1, (not-0 BadSettings, refused-1 v))
   at-settings true v = at-lengths v (rightLengths s (length z) (length za)) refl
 
   pub refused-or-accepted : IsRefused ⊎ ((f : Fields) × Accepted s w f z za)

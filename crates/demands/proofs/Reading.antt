@@ -20,7 +20,7 @@ use Rattle.numbers.specs.declared.Read.{Read}
 use Rattle.numbers.specs.declared.Read.the-variants.{Number, Fault}
 use Rattle.numbers.proofs.Shortest.{put-length-1, put-length-2}
 use Rattle.numbers.proofs.Places.{number-far, number-within, number-fault}
-use Rattle.numbers.proofs.Rows.{row-count, row-within, row-far, row-fault, row-fault-within, put-lengths-few, row-place}
+use Rattle.numbers.proofs.Rows.{row-count, row-within, row-far, row-fault, put-lengths-few, row-place}
 use Rattle.machine.specs.Execute.{rightLengths}
 use Rattle.runlist.specs.Plan.{Found, found, refused, Asked, mostWords, endedAt, afterCount, wordsFrom, asking, zLength, zFrom, settledFrom, settingsOf, headed, planOf}
 use Rattle.runlist.proofs.Plans.{not-refused, z-right}
@@ -150,7 +150,7 @@ module _ (list : List ℕ) (z za room : ℕ) (Q : Refusal → ℕ → Type 0) (c
   by-end : (at n : ℕ) (m : Numbers) → at ≤ length list → numbersAt list at n ≡ m → Refusing Q (endedAt list m)
   by-end at n (all ws p) h e =
       cond-holds (Refusing Q) (eqb p (length list)) (found ws) (refused ExtraBytes p) (λ t. tt) (λ t. c .extra p (row-within list at n ws p h e .1))
-  by-end at n (fault vs r p) h e = of-number r p (row-fault-within list at n vs r p h e .2) (row-fault list at n vs r p e)
+  by-end at n (fault vs r p) h e = let f = row-fault list at n vs r p h e in of-number r p (f .0) (f .1)
 
   by-count : (at : ℕ) (r : Read) → at ≤ length list → numberAt list at ≡ r → Refusing Q (afterCount list room at r)
   by-count at (Number n p) h e =
@@ -181,7 +181,7 @@ module _ (list : List ℕ) (z za room : ℕ) (Q : Refusal → ℕ → Type 0) (c
       (λ l. by-z (settingsOf head) at (row-within list 0 7 head at (omega arith) e .1))
       (λ l. c .lengths head at e v l))
       (λ v. c .settings)
-  by-row (fault vs r p) e = of-number r p (row-fault-within list 0 7 vs r p (omega arith) e .2) (row-fault list 0 7 vs r p e)
+  by-row (fault vs r p) e = let f = row-fault list 0 7 vs r p (omega arith) e in of-number r p (f .0) (f .1)
 
   -- what holds of each cause holds of the list
   pub by-cause : Refusing Q (planOf list z za room)

@@ -21,12 +21,13 @@ use Rattle.runlist.specs.declared.RunAnswer.{RunAnswer}
 use Rattle.runlist.specs.declared.RunAnswer.the-variants as answer
 use Rattle.host.specs.declared.FieldsOf.the-variants.{Are, Nothing}
 use Rattle.words.specs.Numbers.{familyOf}
-use Rattle.host.specs.Host.{answerOf, halves, fieldNumbers, areFields, fieldsWith, fieldsOf, decodedInto, ExecutedPut, RanPut, Fits}
+use Rattle.host.specs.Host.{halves, fieldNumbers, areFields, fieldsWith, fieldsOf, decodedInto, ExecutedPut, RanPut, Fits}
+use Rattle.host.specs.Theorems.{HalvesBack}
 
 -- ---- the halves
 
-pub halves-put : (refusal value : ℕ) → refusal < 2 ^ 32 → halves (answerOf refusal value) ≡ (refusal, value)
-halves-put refusal value h = ap₂ (λ (a b : ℕ). (a, b)) (digits-mod value h) (digits-div value h)
+pub halves-back : HalvesBack
+halves-back refusal value h = ap₂ (λ (a b : ℕ). (a, b)) (digits-mod value h) (digits-div value h)
 
 -- ---- fields
 

@@ -1,4 +1,4 @@
--- The statements of specs/Theorems.antt, proved. Assumes nothing.
+-- The statements of specs/Theorems.antt, proved but for the first, which Put.antt proves. Assumes nothing.
 use Prim.Native.Nat.{ℕ, _^_}
 use native.Mathlib.Nat.{div-add-mod'}
 use native.Mathlib.Omega.{arith}
@@ -19,15 +19,11 @@ use Rattle.demands.proofs.Lists as lists
 use Rattle.words.specs.Numbers.{familyOf}
 use Rattle.words.proofs.Numbers.{family-range, family-back, number-family, bit-range, bit-back, number-bit}
 use Rattle.host.specs.Host.{halves, fieldNumbers, areFields, fieldsWith, fieldsOf, hostDecode, HostExecuted, hostExecute, HostRan, hostRun}
-use Rattle.host.specs.Theorems.{HalvesBack, AnswerBack, FieldsBack, NumbersBack, DecodeKeeps, ExecuteKeeps, RunKeeps}
+use Rattle.host.specs.Theorems.{AnswerBack, FieldsBack, NumbersBack, DecodeKeeps, ExecuteKeeps, RunKeeps}
 use Rattle.host.specs.declared.FieldsOf.{FieldsOf}
 use Rattle.host.specs.declared.FieldsOf.the-variants.{Are, Nothing}
-use Rattle.host.proofs.Put.{halves-put}
 
 -- ---- an answer
-
-pub halves-back : HalvesBack
-halves-back = halves-put
 
 pub answer-back : AnswerBack
 answer-back answer = div-add-mod' answer (2 ^ 32)

@@ -1,4 +1,4 @@
--- What holds of the numbers of the C interface. Statements only: proofs/Theorems.antt proves each.
+-- What holds of the numbers of the C interface. Statements only: proofs/Put.antt proves the first and proofs/Theorems.antt each other.
 use Prim.Native.Nat.{ℕ, _^_, _<_}
 use mathlib.Core.Path.{_≡_}
 use mathlib.Core.Logic.{_≢_}

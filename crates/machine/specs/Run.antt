@@ -2,6 +2,7 @@
 use Prim.Native.Nat.{ℕ}
 use mathlib.Core.List.{List, [], _∷_}
 use Rattle.machine.specs.Execute.{Outcome}
+use Rattle.machine.specs.declared.Reported.{Reported}
 
 -- three numbers for each word: refusal or 0, toggled, written
 abbrev pub Report : Type 0
@@ -9,6 +10,10 @@ Report = ℕ × ℕ × ℕ
 
 abbrev pub reportOf : Outcome → Report
 reportOf o = (o .number, o .toggled, o .written)
+
+-- the same numbers as the code answers them
+abbrev pub threeOf : Reported → Report
+threeOf r = (r .refusal, r .toggled, r .written)
 
 -- what a run leaves: Z, ZA, and a report for each word
 pub record Run : Type 0 where

@@ -1,6 +1,7 @@
 ghost use mathlib.Core.Path.{_≡_};
 ghost use mathlib.Core.Logic.{_⊎_};
 ghost use mathlib.Core.Bool.{true};
+ghost use mathlib.Core.List.{[]};
 ghost use Prim.Native.Nat.{_+_, _-_, _*_, _/_, _%_, _≤_, _<_};
 ghost use Rattle.settings.specs.Valid.{validSettings, vectorBytes, arrayBytes};
 ghost use Rattle.elements.specs.Files.{replaced};
@@ -11,6 +12,7 @@ ghost use Rattle.machine.specs.Modes.{permits};
 ghost use Rattle.machine.specs.Step.{zaAfter};
 ghost use Rattle.machine.specs.Loop.{made, Grid, place, fresh, IntoV, Sources, Places, Ready};
 ghost use Rattle.machine.specs.Execute.{executedSays, writtenBits, stepped, Stepped, executeFields, rightLengths, ExecutePromise};
+ghost use Rattle.machine.specs.Run.{reportOf, threeOf};
 ghost use Rattle.machine.specs.declared.Executed.the-variants.{Done};
 ghost use Rattle.words.specs.declared.Family.the-variants.{Saturating};
 ghost use Rattle.words.specs.Ranges.{Ranges};
@@ -34,6 +36,13 @@ pub struct Counts {
 pub enum Executed {
     Done(Counts),
     Refused(Refusal),
+}
+
+// The three numbers of a word in the report: a refusal's number or 0, and the counts.
+pub struct Reported {
+    pub refusal: u32,
+    pub toggled: u32,
+    pub written: u32,
 }
 
 // A, B: the low 16 bytes of the destination become new; registers have w bytes. In A each element takes the one lane at the index of the second
@@ -289,4 +298,22 @@ pub fn execute(settings: Settings, word: u32, z: &mut [u8], za: &mut [u8]) -> Ex
         return Executed::Refused(Refusal::BadLength);
     }
     execute_word(settings, word, z, za)
+}
+
+// What a call answered, for the report.
+pub fn report_of(executed: Executed) -> Reported
+    ensures { λ r. ⌜ threeOf r ≡ reportOf (executedSays executed [] []) ⌝ }
+{
+    match executed {
+        Executed::Done(counts) => Reported {
+            refusal: 0,
+            toggled: counts.toggled,
+            written: counts.written,
+        },
+        Executed::Refused(refusal) => Reported {
+            refusal: settings::refusal_number(refusal),
+            toggled: 0,
+            written: 0,
+        },
+    }
 }

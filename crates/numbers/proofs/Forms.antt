@@ -2,30 +2,23 @@
 use Prim.Native.Nat.{ℕ, zero, suc, _+_}
 use native.Mathlib.Nat.{add-zero}
 use native.Mathlib.Omega.{arith}
-use mathlib.Core.Path.{_≡_, refl, sym, ap, ap₂, _∙_}
+use mathlib.Core.Path.{_≡_, sym, ap, ap₂, _∙_}
 use mathlib.Core.List.{List, [], _∷_, _++_, append-assoc}
 use lib.ListN.{length, drop, length-append, take-append-drop}
 use lib.Seq.{drop-drop}
-use Rattle.numbers.specs.Numbers.{Got, got, short, wrong, numeral, placed, numberAt, put, puts, all, joined, more, numbersAt}
+use Rattle.numbers.specs.Numbers.{numberAt, put, puts, all, joined, more, numbersAt}
 use Rattle.numbers.specs.Theorems.{RowReadBack, RowForm}
 use Rattle.numbers.specs.declared.Read.the-variants.{Number}
 use Rattle.numbers.proofs.Shortest.{read-shortest}
-use Rattle.numbers.proofs.Places.{number-put}
+use Rattle.numbers.proofs.Places.{number-put, number-got}
 use Rattle.numbers.proofs.Rows.{last-of, puts-last}
 
 -- a number stands in its shortest form in front of what follows it
 pub number-form : (list : List ℕ) (at v p : ℕ) → numberAt list at ≡ Number v p → drop at list ≡ put v ++ drop p list
-unfolding numberAt
-number-form list at v p h = go (numeral 0 (drop at list)) refl h
-  where
-    go : (g : Got) → numeral 0 (drop at list) ≡ g → placed at g ≡ Number v p → drop at list ≡ put v ++ drop p list
-    go (got w m) q e =
-        let x : w ≡ v = cc in
-        let y : at + m ≡ p = cc in
-        sym (take-append-drop m (drop at list))
-        ∙ ap₂ (λ (a b : List ℕ). a ++ b) (read-shortest (drop at list) w m q ∙ ap put x) (drop-drop m at list ∙ ap (λ (k : ℕ). drop k list) y)
-    go short q e = let z : _≡_ {A = ℕ} 0 1 = cc in absurd (omega arith)
-    go wrong q e = let z : _≡_ {A = ℕ} 0 1 = cc in absurd (omega arith)
+number-form list at v p h =
+    let (m, q, y) = number-got list at v p h in
+    sym (take-append-drop m (drop at list))
+    ∙ ap₂ (λ (a b : List ℕ). a ++ b) (read-shortest (drop at list) v m q) (drop-drop m at list ∙ ap (λ (k : ℕ). drop k list) y)
 
 pub row-form : RowForm
 unfolding numbersAt puts

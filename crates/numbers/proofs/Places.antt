@@ -87,6 +87,16 @@ pub number-put : (before : List ℕ) (v : ℕ) (t : List ℕ) → v < 2 ^ 32 →
 unfolding numberAt
 number-put before v t h = ap (placed (length before)) (ap (numeral 0) (drop-append-seam before (put v ++ t)) ∙ read-put v t h)
 
+-- a number is read from the bytes at its place, and the place after it follows them
+pub number-got : (list : List ℕ) (at v p : ℕ) → numberAt list at ≡ Number v p → (m : ℕ) × (numeral 0 (drop at list) ≡ got v m) × (at + m ≡ p)
+unfolding numberAt
+number-got list at v p h = go (numeral 0 (drop at list)) refl h
+  where
+    go : (g : Got) → numeral 0 (drop at list) ≡ g → placed at g ≡ Number v p → (m : ℕ) × (numeral 0 (drop at list) ≡ got v m) × (at + m ≡ p)
+    go (got w m) q e = let x : w ≡ v = cc in (m, q ∙ ap (λ (u : ℕ). got u m) x, cc)
+    go short q e = let z : _≡_ {A = ℕ} 0 1 = cc in absurd (omega arith)
+    go wrong q e = let z : _≡_ {A = ℕ} 0 1 = cc in absurd (omega arith)
+
 -- a number stands in the list whole, in one to five bytes, and is below 2 ^ 32
 pub record Within (list : List ℕ) (at v n : ℕ) : Type 0 where
   pub past : at < n
@@ -96,26 +106,18 @@ pub record Within (list : List ℕ) (at v n : ℕ) : Type 0 where
   pub long : n ≡ at + length (put v)
 
 pub number-within : (list : List ℕ) (at v n : ℕ) → numberAt list at ≡ Number v n → Within list at v n
-unfolding numberAt
-number-within list at v n h = go (numeral 0 (drop at list)) refl h
-  where
-    go : (g : Got) → numeral 0 (drop at list) ≡ g → placed at g ≡ Number v n → Within list at v n
-    go (got w m) q e =
-        let x : w ≡ v = cc in
-        let y : at + m ≡ n = cc in
-        let count : m ≡ length (put w) = read-length (drop at list) w m q in
-        let bytes : length (take m (drop at list)) ≡ m = ap length (read-shortest (drop at list) w m q) ∙ sym count in
-        let long : m ≡ length (put v) = count ∙ ap (λ (u : ℕ). length (put u)) x in
-        let few = put-length v in
-        record {
-          past = omega arith;
-          inside = omega (arith, length-take m (drop at list), length-drop at list);
-          near = omega arith;
-          below = omega (arith, read-small (drop at list) w m q);
-          long = omega arith;
-        }
-    go short q e = let z : _≡_ {A = ℕ} 0 1 = cc in absurd (omega arith)
-    go wrong q e = let z : _≡_ {A = ℕ} 0 1 = cc in absurd (omega arith)
+number-within list at v n h =
+    let (m, q, y) = number-got list at v n h in
+    let count : m ≡ length (put v) = read-length (drop at list) v m q in
+    let bytes : length (take m (drop at list)) ≡ m = ap length (read-shortest (drop at list) v m q) ∙ sym count in
+    let few = put-length v in
+    record {
+      past = omega arith;
+      inside = omega (arith, length-take m (drop at list), length-drop at list);
+      near = omega arith;
+      below = read-small (drop at list) v m q;
+      long = omega arith;
+    }
 
 -- a fault is refusal 7 or 8, at the place where the number is due
 pub number-fault : (list : List ℕ) (at : ℕ) (k : Refusal) (p : ℕ) → numberAt list at ≡ Fault k p → (p ≡ at) × ((k ≡ ListEnds) ⊎ (k ≡ BadNumber))

@@ -136,30 +136,18 @@ unfolding numbersAt
 row-far list t at zero h = refl
 row-far list t at (suc n) h = ap (more (list ++ t)) (row-far list t at n (omega arith)) ∙ far-more list t at n (numbersAt list at n) h refl
 
--- a row's fault is refusal 7 or 8
-pub row-fault : (list : List ℕ) (at n : ℕ) (vs : List ℕ) (k : Refusal) (p : ℕ) → numbersAt list at n ≡ fault vs k p → (k ≡ ListEnds) ⊎ (k ≡ BadNumber)
+-- a row's fault is refusal 7 or 8, and its place is in the list or at its end
+pub row-fault : (list : List ℕ) (at n : ℕ) (vs : List ℕ) (k : Refusal) (p : ℕ) → at ≤ length list → numbersAt list at n ≡ fault vs k p
+    → (p ≤ length list) × ((k ≡ ListEnds) ⊎ (k ≡ BadNumber))
 unfolding numbersAt
-row-fault list at zero vs k p e = let z : _≡_ {A = ℕ} 0 1 = cc in absurd (omega arith)
-row-fault list at (suc n) vs k p e =
+row-fault list at zero vs k p h e = let z : _≡_ {A = ℕ} 0 1 = cc in absurd (omega arith)
+row-fault list at (suc n) vs k p h e =
     ⊎-elim
-    (λ (f : numbersAt list at n ≡ fault vs k p). row-fault list at n vs k p f)
-    (λ (f : FaultIs list (numbersAt list at n) vs k p). number-fault list (f .place) k p (f .number) .1)
-    (fault-of list (numbersAt list at n) vs k p e)
-
--- it comes after fewer numbers than were asked for, and its place is in the list or at its end
-pub row-fault-within : (list : List ℕ) (at n : ℕ) (vs : List ℕ) (k : Refusal) (p : ℕ) → at ≤ length list → numbersAt list at n ≡ fault vs k p
-    → (length vs < n) × (at ≤ p) × (p ≤ length list)
-unfolding numbersAt
-row-fault-within list at zero vs k p h e = let z : _≡_ {A = ℕ} 0 1 = cc in absurd (omega arith)
-row-fault-within list at (suc n) vs k p h e =
-    ⊎-elim
-    (λ (f : numbersAt list at n ≡ fault vs k p).
-    let r = row-fault-within list at n vs k p h f in
-    (omega arith, r .1, r .2))
+    (λ (f : numbersAt list at n ≡ fault vs k p). row-fault list at n vs k p h f)
     (λ (f : FaultIs list (numbersAt list at n) vs k p).
     let w = row-within list at n vs (f .place) h (f .row) in
-    let here = number-fault list (f .place) k p (f .number) .0 in
-    (omega (arith, row-count list at n vs (f .place) (f .row)), omega arith, omega arith))
+    let here = number-fault list (f .place) k p (f .number) in
+    (omega arith, here .1))
     (fault-of list (numbersAt list at n) vs k p e)
 
 -- the shortest form of a row's last number stands last

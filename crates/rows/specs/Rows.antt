@@ -6,6 +6,7 @@ use mathlib.Core.Bool.{true, false, cond}
 use mathlib.Core.List.{List, [], _∷_, _++_, map}
 use lib.Dec.{eqb}
 use lib.IntN.{ℤ, pos, negsuc}
+use lib.ListN.{replicate}
 use Rattle.settings.specs.Valid.{validSettings, vectorBytes, arrayBytes}
 use Rattle.settings.specs.declared.Settings.{Settings}
 use Rattle.words.specs.Says.{describe}
@@ -56,11 +57,6 @@ benchWith features modes w8 =
 abbrev pub bench : ℕ → Settings
 bench features = benchWith features 0 0
 
--- n bytes, all the same
-abbrev pub bytes : ℕ → ℕ → List ℕ
-bytes zero x = []
-bytes (suc n) x = x ∷ bytes n x
-
 abbrev pub decodeAnswer : ℕ → Fields → Answer
 decodeAnswer zero f = fields f
 decodeAnswer (suc n) f = refused (suc n)
@@ -84,14 +80,14 @@ laneAnswer r a x y =
 -- those of n vectors of 16 bytes that are not zero
 abbrev pub changed : ℕ → List ℕ → List ℕ
 changed zero za = []
-changed (suc v) za = changed v za ++ cond (eqb (toggled (bytes 16 0) (vectorAt 16 v za)) 0) [] (v ∷ [])
+changed (suc v) za = changed v za ++ cond (eqb (toggled (replicate 16 0) (vectorAt 16 v za)) 0) [] (v ∷ [])
 
 -- what the definitions answer
 unfoldable pub answerOf : Given → Answer
 answerOf (word w features) = decodeAnswer (decodePaper (bench features) w .0) (decodePaper (bench features) w .1)
-answerOf (onto w features x) = lanesAnswer (executePaper (bench features) w (bytes 512 x) (bytes 256 0))
+answerOf (onto w features x) = lanesAnswer (executePaper (bench features) w (replicate 512 x) (replicate 256 0))
 answerOf (lane w features x y a) = laneAnswer (recipeOf (fieldsOf w features .family) (fieldsOf w features) 0) a x y
-answerOf (array w features w8) = vectors (changed 16 (executePaper (benchWith features 3 w8) w (bytes 512 1) (bytes 256 0) .za))
+answerOf (array w features w8) = vectors (changed 16 (executePaper (benchWith features 3 w8) w (replicate 512 1) (replicate 256 0) .za))
 answerOf (share toggled written) = percent (percentOf toggled written)
 
 pub record Line : Type 0 where
@@ -101,8 +97,8 @@ pub record Line : Type 0 where
 
 abbrev pub table : List Line
 table =
-    record { name = "P1"; given = onto 0x0E228020 1 0x01; answer = lanes (bytes 8 0x0102) 16 128 12 }
-    ∷ record { name = "P2"; given = onto 0x0E22A020 1 0x01; answer = lanes (bytes 8 0x0100) 8 128 6 }
+    record { name = "P1"; given = onto 0x0E228020 1 0x01; answer = lanes (replicate 8 0x0102) 16 128 12 }
+    ∷ record { name = "P2"; given = onto 0x0E22A020 1 0x01; answer = lanes (replicate 8 0x0100) 8 128 6 }
     ∷ record { name = "P3"; given = lane 0x0E228020 1 0xFF 0xFF 0; answer = onelane 0x0001 (pos 1) }
     ∷ record { name = "P4"; given = lane 0x2E228020 1 0xFF 0xFF 0; answer = onelane 0xFE01 (negsuc 510) }
     ∷ record {

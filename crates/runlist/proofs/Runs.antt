@@ -12,17 +12,17 @@ use Rattle.numbers.specs.Numbers.{numbersAt}
 use Rattle.tally.specs.Tally.{plus}
 use Rattle.tally.specs.declared.Tally.{Tally}
 use Rattle.machine.specs.Execute.{Outcome, executePaper, executedSays}
-use Rattle.machine.specs.Run.{Report, reportOf, Run, reportFirst, runOf}
+use Rattle.machine.specs.Run.{Report, reportOf, threeOf, Run, reportFirst, runOf}
 use Rattle.machine.specs.declared.Executed.{Executed}
 use Rattle.machine.specs.declared.Executed.the-variants.{Done, Refused}
+use Rattle.machine.specs.declared.Reported.{Reported}
 use Rattle.machine.proofs.Answers.{says-z, says-za}
 use Rattle.machine.proofs.Small as machine
 use Rattle.runlist.specs.Plan.{Found, found, refused, Asked, endedAt, asking, planOf}
 use Rattle.runlist.specs.Rooms.{goesOn}
-use Rattle.runlist.specs.RunList.{noTally, tallied, three, threes, carriedOut, runPaper, runSays, RunPromise, threeOf, withThree, Performed}
+use Rattle.runlist.specs.RunList.{noTally, tallied, three, threes, carriedOut, runPaper, runSays, RunPromise, withThree, Performed}
 use Rattle.runlist.specs.declared.RunAnswer.{RunAnswer}
 use Rattle.runlist.specs.declared.RunAnswer.the-variants as answer
-use Rattle.runlist.specs.declared.Reported.{Reported}
 
 -- i words are done: what is left of the run makes up the whole of it
 pub record Running (s : Settings) (ws z₀ za₀ report₀ : List ℕ) (z za report : List ℕ) (t : Tally) (i : ℕ) : Type 0 where

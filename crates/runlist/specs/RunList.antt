@@ -11,7 +11,6 @@ use Rattle.machine.specs.Run.{Report, Run, runOf}
 use Rattle.runlist.specs.Plan.{Found, found, refused, Asked, planOf}
 use Rattle.runlist.specs.declared.RunAnswer.{RunAnswer}
 use Rattle.runlist.specs.declared.RunAnswer.the-variants as answer
-use Rattle.runlist.specs.declared.Reported.{Reported}
 
 -- the refusal's number or 0, and its place; the count of words and their tally; Z, ZA and the report at the end
 pub record Ended : Type 0 where
@@ -75,9 +74,6 @@ abbrev pub RunPromise : List ℕ → List ℕ → List ℕ → List ℕ → RunA
 RunPromise list z za report r z′ za′ report′ = runSays r z′ za′ report′ ≡ runPaper list z za report
 
 -- ---- only contracts use these
-
-abbrev pub threeOf : Reported → Report
-threeOf r = (r .refusal, r .toggled, r .written)
 
 -- the report with the numbers of word i
 abbrev pub withThree : ℕ → Report → List ℕ → List ℕ

@@ -1,15 +1,14 @@
 ghost use mathlib.Core.Path.{_≡_};
-ghost use mathlib.Core.List.{[]};
 ghost use Prim.Native.Nat.{_+_, _*_, _≤_};
 ghost use lib.ListN.{length, take, drop, replicate};
-ghost use Rattle.machine.specs.Execute.{executePaper, executedSays};
-ghost use Rattle.machine.specs.Run.{reportOf, runOf};
+ghost use Rattle.machine.specs.Execute.{executePaper};
+ghost use Rattle.machine.specs.Run.{threeOf, runOf};
 ghost use Rattle.machine.specs.Loop.{Ready};
 ghost use Rattle.numbers.specs.Numbers.{numbersAt, filled};
 ghost use Rattle.runlist.specs.Plan.{mostWords, endedAt, settingsOf};
 ghost use Rattle.runlist.specs.Rooms.{wordsSay, goesOn, CountRead, RestRead, FrontRead};
-ghost use Rattle.runlist.specs.RunList.{threeOf, carriedOut, runSays, withThree, RunPromise, Performed};
-use machine::Executed;
+ghost use Rattle.runlist.specs.RunList.{carriedOut, runSays, withThree, RunPromise, Performed};
+use machine::Reported;
 use numbers::Read;
 use numbers::Row;
 use settings::Features;
@@ -183,30 +182,6 @@ fn clear(bytes: &mut [u8])
     }
 }
 
-// The three numbers of a word in the report.
-struct Reported {
-    refusal: u32,
-    toggled: u32,
-    written: u32,
-}
-
-fn report_of(executed: Executed) -> Reported
-    ensures { λ r. ⌜ threeOf r ≡ reportOf (executedSays executed [] []) ⌝ }
-{
-    match executed {
-        Executed::Done(counts) => Reported {
-            refusal: 0,
-            toggled: counts.toggled,
-            written: counts.written,
-        },
-        Executed::Refused(refusal) => Reported {
-            refusal: settings::refusal_number(refusal),
-            toggled: 0,
-            written: 0,
-        },
-    }
-}
-
 // The numbers of word i.
 fn put_report(report: &mut [u32], i: usize, numbers: Reported)
     requires { ⌜ 3 * i + 3 ≤ length (now report) ⌝ }
@@ -236,7 +211,7 @@ fn perform(
     };
     let mut i = 0;
     while i < words.len() {
-        let numbers = report_of(machine::execute_word(settings, words[i], z, za));
+        let numbers = machine::report_of(machine::execute_word(settings, words[i], z, za));
         tally = tally::counted(tally, numbers.toggled, numbers.written);
         put_report(report, i, numbers);
         i += 1;

@@ -143,3 +143,15 @@ pub fn fill(bytes: &mut [u8], kind: u32, seed: u32)
         i += 1;
     }
 }
+
+// The same, of the kind in a column and of the seed in the next.
+pub fn fill_from(columns: &[u8], column: usize, bytes: &mut [u8])
+    requires { ⌜ column < 18446744073709551615 ⌝ }
+    ensures { λ r. ⌜ now (bytes .exit) ≡ contents (numberOf (now (columns .entry)) column) (numberOf (now (columns .entry)) (column + 1)) (length (now (bytes .entry))) ⌝ }
+{
+    fill(
+        bytes,
+        number_of(columns, column),
+        number_of(columns, column + 1),
+    );
+}

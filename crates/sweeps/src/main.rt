@@ -131,16 +131,8 @@ fn read_end(sweep: &[u8], z: &mut [u8], za: &mut [u8]) {
 
 // Z and ZA as the sweep begins.
 fn fill_start(sweep: &[u8], z: &mut [u8], za: &mut [u8]) {
-    stored::fill(
-        z,
-        stored::number_of(sweep, Z_CONTENTS),
-        stored::number_of(sweep, Z_CONTENTS + 1),
-    );
-    stored::fill(
-        za,
-        stored::number_of(sweep, ZA_CONTENTS),
-        stored::number_of(sweep, ZA_CONTENTS + 1),
-    );
+    stored::fill_from(sweep, Z_CONTENTS, z);
+    stored::fill_from(sweep, ZA_CONTENTS, za);
 }
 
 fn same_at(bytes: &[u8], due: &[u8], i: usize) -> bool {

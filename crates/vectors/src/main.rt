@@ -10,8 +10,8 @@ use words::Fields;
 use words::Partnered;
 
 const ALL_FEATURES: u32 = 31;
-// An answer that is no refusal number: the word was described, but not as the line says.
-const OTHER_FIELDS: u32 = 99;
+// An answer that is no refusal number: decode found other fields than the line's, or encode another word than is due.
+const OTHER_ANSWER: u32 = 99;
 
 // The byte at a place of the line, and 0 past its end, so that no reader has to know the line's length.
 fn byte_at(line: &[u8], at: usize) -> u8 {
@@ -53,18 +53,12 @@ fn partnered(word: u32) -> Partnered {
     words::partner(settings_with(128, ALL_FEATURES), word)
 }
 
-fn one_if(fact: bool) -> u32
-    ensures { λ r. ⌜ r < 2 ⌝ }
-{
-    if fact { 1 } else { 0 }
-}
-
 // Whether the line's twelve numbers are these fields.
 fn has_fields(line: &[u8], fields: Fields) -> bool {
     let family = fields.family;
     (number_of(line, 0) == words::family_number(family))
-        & (number_of(line, 1) == one_if(fields.unsigned))
-        & (number_of(line, 2) == one_if(fields.subtract))
+        & (number_of(line, 1) == words::bit(fields.unsigned))
+        & (number_of(line, 2) == words::bit(fields.subtract))
         & (number_of(line, 3) == fields.lane)
         & (number_of(line, 4) == fields.part)
         & (number_of(line, 5) == fields.index)
@@ -76,7 +70,7 @@ fn has_fields(line: &[u8], fields: Fields) -> bool {
         & (number_of(line, 11) == fields.offset)
 }
 
-// What decode makes of the line's word: 0 where it finds the line's fields, OTHER_FIELDS where it finds others,
+// What decode makes of the line's word: 0 where it finds the line's fields, OTHER_ANSWER where it finds others,
 // else the number of its refusal.
 fn answer(line: &[u8], vl: u32, features: u32) -> u32 {
     match words::decode(settings_with(vl, features), word_of(line)) {
@@ -84,7 +78,7 @@ fn answer(line: &[u8], vl: u32, features: u32) -> u32 {
             if has_fields(line, fields) {
                 0
             } else {
-                OTHER_FIELDS
+                OTHER_ANSWER
             }
         }
         Decoded::Refused(refusal) => settings::refusal_number(refusal),
@@ -121,7 +115,7 @@ fn is_taken_by_sets(line: &[u8]) -> bool {
 // What encode makes of fields: the number of its refusal, or 0 with a word, which must be the one that is due.
 fn encode_answer(settings: Settings, fields: Fields, due: u32) -> u32 {
     match encoding::encode(settings, fields) {
-        Encoded::Word(word) => if word == due { 0 } else { OTHER_FIELDS },
+        Encoded::Word(word) => if word == due { 0 } else { OTHER_ANSWER },
         Encoded::Refused(refusal) => settings::refusal_number(refusal),
     }
 }

@@ -9,9 +9,10 @@ use mathlib.Core.Bool.{true, false}
 use Rattle.laws.specs.Lists.{Each}
 use Rattle.laws.proofs.Lists.{each-of}
 use Rattle.laws.proofs.Tests.{both, failed, by-cond}
-use Rattle.layouts.specs.Layout.{Layout, size, matches}
+use Rattle.layouts.specs.Layout.{Layout, size, matches, flip}
 use Rattle.layouts.proofs.Apart.{apart, apartFrom, allApart, no-word-in-both}
 use Rattle.words.specs.Says.{As, Nothing, Row, table, saysOf, saysFirst, describe}
+use Rattle.words.specs.Partner.{flipFirst, partnerWord}
 use Rattle.words.specs.declared.Fields.{Fields}
 
 abbrev pub layouts : List Row → List Layout
@@ -19,7 +20,7 @@ layouts [] = []
 layouts (r ∷ rs) = r .layout ∷ layouts rs
 
 -- the whole of it: each two layouts of the table fix some bit differently
-pub table-apart : allApart (layouts table) ≡ true
+table-apart : allApart (layouts table) ≡ true
 table-apart = refl
 
 -- each row of the table is 32 bits wide
@@ -27,7 +28,7 @@ pub table-32 : map size (layouts table) ≡ 32 ∷ 32 ∷ 32 ∷ 32 ∷ 32 ∷ 3
 table-32 = refl
 
 -- a row apart from others shares no word with any of them
-pub apart-from : (r q : Row) (rs : List Row) (w : ℕ) → apartFrom (r .layout) (layouts rs) ≡ true → List·Memᴰ q rs → matches (r .layout) w ≡ true → matches (q .layout) w ≡ true → ⊥
+apart-from : (r q : Row) (rs : List Row) (w : ℕ) → apartFrom (r .layout) (layouts rs) ≡ true → List·Memᴰ q rs → matches (r .layout) w ≡ true → matches (q .layout) w ≡ true → ⊥
 apart-from r q [] w a m p h = List·Memᴰ·not-nil m
 apart-from r q (x ∷ rs) w a m p h =
     let b = both (apart (r .layout) (x .layout) 32) (apartFrom (r .layout) (layouts rs)) a in
@@ -64,10 +65,10 @@ pub record SaidBy (rs : List Row) (w : ℕ) (f : Fields) : Type 0 where
   pub fields : row .fields w ≡ f
 
 -- what a description says is one thing, and is not nothing
-pub found : (g f : Fields) → As g ≡ As f → g ≡ f
+found : (g f : Fields) → As g ≡ As f → g ≡ f
 found g f e = cc
 
-pub never : (f : Fields) → Nothing ≡ As f → ⊥
+never : (f : Fields) → Nothing ≡ As f → ⊥
 never f e = let z : _≡_ {A = ℕ} 0 1 = cc in omega arith
 
 first-said : (rs : List Row) (w : ℕ) (f : Fields) → saysFirst rs w ≡ As f → SaidBy rs w f
@@ -81,25 +82,35 @@ first-said (r ∷ rs) w f =
     let s = first-said rs w f e in
     record { row = s .row; listed = List·Memᴰ·tail (s .listed); matching = s .matching; open-size = s .open-size; fields = s .fields })
 
-said-first : (rs : List Row) → allApart (layouts rs) ≡ true → (w : ℕ) (f : Fields) → SaidBy rs w f → saysFirst rs w ≡ As f
-said-first [] a w f s = absurd (List·Memᴰ·not-nil (s .listed))
-said-first (r ∷ rs) a w f s =
-    let b = both (apartFrom (r .layout) (layouts rs)) (allApart (layouts rs)) a in
+-- the row that matches is the first that does, as no other matches: it says what is said, and its S is the one that is flipped
+first-row : (rs : List Row) → allApart (layouts rs) ≡ true → (r : Row) (w : ℕ) → List·Memᴰ r rs → matches (r .layout) w ≡ true
+    → (saysFirst rs w ≡ saysOf r w) × (flipFirst rs w ≡ flip (r .layout) "S" w)
+first-row [] a r w i m = absurd (List·Memᴰ·not-nil i)
+first-row (x ∷ rs) a r w i m =
+    let b = both (apartFrom (x .layout) (layouts rs)) (allApart (layouts rs)) a in
     ⊎-elim
-    (λ (e : s .row ≡ r).
-    let m : matches (r .layout) w ≡ true = subst (λ (y : Row). matches (y .layout) w ≡ true) e (s .matching) in
-    let o : r .reserved w ≡ false = subst (λ (y : Row). y .reserved w ≡ false) e (s .open-size) in
-    let g : r .fields w ≡ f = subst (λ (y : Row). y .fields w ≡ f) e (s .fields) in
-    rw (m, o) (ap As g))
-    (λ (n : List·Memᴰ (s .row) rs).
-    let m : matches (r .layout) w ≡ false = failed (matches (r .layout) w) (λ p. apart-from r (s .row) rs w (b .0) n p (s .matching)) in
-    rw m (said-first rs (b .1) w f (record { row = s .row; listed = n; matching = s .matching; open-size = s .open-size; fields = s .fields })))
-    (List·Memᴰ·cases-cons (s .listed))
+    (λ (e : r ≡ x).
+    let h : matches (x .layout) w ≡ true = subst (λ (y : Row). matches (y .layout) w ≡ true) e m in
+    subst (λ (y : Row). (saysFirst (x ∷ rs) w ≡ saysOf y w) × (flipFirst (x ∷ rs) w ≡ flip (y .layout) "S" w)) (sym e) (rw h, rw h))
+    (λ (n : List·Memᴰ r rs).
+    let h : matches (x .layout) w ≡ false = failed (matches (x .layout) w) (λ p. apart-from x r rs w (b .0) n p m) in
+    let l = first-row rs (b .1) r w n m in
+    (rw h (l .0), rw h (l .1)))
+    (List·Memᴰ·cases-cons i)
+
+module _ (w : ℕ) (f : Fields) (s : SaidBy table w f) where
+  said-first : saysFirst table w ≡ As f
+  said-first = first-row table table-apart (s .row) w (s .listed) (s .matching) .0 ∙ rw (s .open-size) (ap As (s .fields))
+
+  -- its partner has the S of that row flipped
+  pub flipped-in : partnerWord w ≡ flip (s .row .layout) "S" w
+  unfolding partnerWord
+  flipped-in = first-row table table-apart (s .row) w (s .listed) (s .matching) .1
 
 -- a word is described exactly when a row matches and its size is not reserved
 pub described-exactly : (w : ℕ) (f : Fields) → (describe w ≡ As f) ↔ SaidBy table w f
 unfolding describe
-described-exactly w f = (first-said table w f, said-first table table-apart w f)
+described-exactly w f = (first-said table w f, said-first w f)
 
 -- P holds of what the row says of w, where it says anything
 abbrev pub WhereSaid : (Fields → Type 0) → ℕ → Row → Type 0

@@ -30,8 +30,11 @@ part-counted-with-end c = search needs
 counted-with-requires : tie.Need-counted-with-requires Inv-loop μ-loop
 counted-with-requires c κs = search needs
 
-one-if-requires : tie.Need-one-if-requires Inv-loop μ-loop
-one-if-requires c κs = search needs
+bit-requires : tie.Need-bit-requires Inv-loop μ-loop
+bit-requires c κs = search needs
+
+cast-count : tie.Need-cast-count Inv-loop μ-loop
+cast-count c = search needs
 
 add-count : tie.Need-add-count Inv-loop μ-loop
 add-count c = search needs
@@ -60,7 +63,8 @@ count-with-spec =
     part-counted-with-start
     part-counted-with-end
     counted-with-requires
-    one-if-requires
+    bit-requires
+    cast-count
     add-count
     add-at
     loop-less

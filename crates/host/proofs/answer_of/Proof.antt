@@ -1,6 +1,6 @@
 -- `host::answer_of` meets its contract: the halves of what it puts together. Assumes nothing.
 use borrow.Author.Needs.{needs}
-use Rattle.host.proofs.Put.{halves-put}
+use Rattle.host.proofs.Put.{halves-back}
 use Rattle.host.proofs.answer_of.Statement.{statement}
 use Rattle.host.proofs.answer_of.Tie as tie
 
@@ -11,7 +11,7 @@ add-result : tie.Need-add-result
 add-result c = search needs
 
 returns : tie.Need-returns
-returns c = halves-put _ _ (search needs)
+returns c = halves-back _ _ (search needs)
 
 pub answer-of-spec : {M : Type 1} → statement M
 answer-of-spec = tie.close (tie.spec mul-result add-result returns)

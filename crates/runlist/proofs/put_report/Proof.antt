@@ -1,7 +1,7 @@
 -- `runlist::put_report` meets its contract. Assumes nothing.
 use native.Mathlib.Omega.{arith}
 use lib.ListN.{length-set}
-use Rattle.runlist.specs.RunList.{threeOf}
+use Rattle.machine.specs.Run.{threeOf}
 use Rattle.runlist.proofs.Runs.{stored}
 use borrow.Author.Needs.{needs}
 use Rattle.runlist.proofs.put_report.Statement.{statement}

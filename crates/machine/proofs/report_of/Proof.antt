@@ -1,13 +1,13 @@
--- `runlist::report_of` meets its contract. Assumes nothing.
+-- `machine::report_of` meets its contract. Assumes nothing.
 use Prim.Native.Nat.{ℕ}
 use mathlib.Core.Path.{sym, ap, _∙_}
 use mathlib.Core.List.{[]}
 use Rattle.machine.specs.Execute.{executedSays}
 use Rattle.machine.specs.Run.{reportOf}
 use Rattle.machine.specs.declared.Executed.{Executed}
 use borrow.Author.Needs.{needs}
-use Rattle.runlist.proofs.report_of.Statement.{statement}
-use Rattle.runlist.proofs.report_of.Tie as tie
+use Rattle.machine.proofs.report_of.Statement.{statement}
+use Rattle.machine.proofs.report_of.Tie as tie
 
 enum-known-executed : tie.Need-enum-known-executed
 enum-known-executed c = search needs
