@@ -139,13 +139,6 @@ own-by Long f w =
     (row-says (entry rowE2 (fieldsE rowE2 2)) (next (next (next (next (next (next (here refl))))))) (valuesE f 2 16) (fit-e2 f) f w refl)
     (row-says (entry rowE4 (fieldsE rowE4 4)) (next (next (next (next (next (next (next (here refl)))))))) (valuesE f 4 8) (fit-e4 f) f w refl)
 
--- a choice whose test is known
-pub cond-yes : (t p q r : Bool) → t ≡ true → r ≡ p → r ≡ cond t p q
-cond-yes t p q r e h = rw e h
-
-pub cond-no : (t p q r : Bool) → t ≡ false → r ≡ q → r ≡ cond t p q
-cond-no t p q r e h = rw e h
-
 -- the answer of the candidate's own row is the answer of the whole table
 pub own : (family : Family) (f : Fields) (w : ℕ) (r : Bool) → f .family ≡ family → w ≡ candidateOf f → r ≡ ownBy family f w → r ≡ saysOnly f (describe w)
 own family f w r told e h = h ∙ own-by family f w (e ∙ ap (λ (x : Family). candidateBy x f) told)

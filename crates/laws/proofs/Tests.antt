@@ -25,12 +25,19 @@ pub by-cond : {A : Type 0} {P : Type 0} (b : Bool) (x y t : A) → (b ≡ true �
 by-cond true x y t k l h = k refl h
 by-cond false x y t k l h = l refl h
 
+-- a choice whose test is known
+pub cond-yes : {A : Type 0} (b : Bool) (x y t : A) → b ≡ true → t ≡ x → t ≡ cond b x y
+cond-yes b x y t e p = rw e p
+
+pub cond-no : {A : Type 0} (b : Bool) (x y t : A) → b ≡ false → t ≡ y → t ≡ cond b x y
+cond-no b x y t e p = rw e p
+
 -- a choice by a comparison of two numbers
 pub cond-eq : {A : Type 0} (m n : ℕ) (x y t : A) → m ≡ n → t ≡ x → t ≡ cond (eqb m n) x y
-cond-eq m n x y t h p = rw (eq-eqb m n h) p
+cond-eq m n x y t h p = cond-yes (eqb m n) x y t (eq-eqb m n h) p
 
 pub cond-ne : {A : Type 0} (m n : ℕ) (x y t : A) → (m ≡ n → ⊥) → t ≡ y → t ≡ cond (eqb m n) x y
-cond-ne m n x y t h p = rw (ne-eqb m n h) p
+cond-ne m n x y t h p = cond-no (eqb m n) x y t (ne-eqb m n h) p
 
 -- for `search`: branches on numbers
 pub ruleset by-numbers = (cond-eq, cond-ne)

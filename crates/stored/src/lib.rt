@@ -132,7 +132,7 @@ fn content_byte(kind: u32, state: u32, at: usize) -> u8
 }
 
 // Makes the contents of a kind and a seed.
-pub fn fill(bytes: &mut [u8], kind: u32, seed: u32)
+fn fill(bytes: &mut [u8], kind: u32, seed: u32)
     ensures { λ r. ⌜ now (bytes .exit) ≡ contents kind seed (length (now (bytes .entry))) ⌝ }
 {
     let mut state = seed;

@@ -1,10 +1,10 @@
 -- `encoding::has` meets its contract: each return asks the row of the candidate, which by Own.antt answers for the table. Assumes nothing.
 use mathlib.Core.Path.{refl, ap, _∙_}
 use borrow.Author.Needs.{needs}
-use Rattle.laws.proofs.Tests.{cond-eq, cond-ne}
+use Rattle.laws.proofs.Tests.{cond-yes, cond-no, cond-eq, cond-ne}
 use Rattle.words.specs.declared.Family.the-variants.{ByElement, Vector, Saturating, LongLong, Long}
 use Rattle.encoding.specs.Candidate.{sameOf}
-use Rattle.encoding.proofs.Own.{cond-yes, cond-no, own}
+use Rattle.encoding.proofs.Own.{own}
 use Rattle.encoding.proofs.has.Statement.{statement}
 use Rattle.encoding.proofs.has.Tie as tie
 
