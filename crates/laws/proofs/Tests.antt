@@ -1,6 +1,7 @@
 -- Tests and choices: what a test that passed says of its parts, and a choice by a test. Assumes nothing.
 use mathlib.Core.Path.{_≡_, refl}
 use mathlib.Core.Bool.{Bool, true, false, _&&_, _||_, cond}
+use mathlib.Core.Logic.{_⊎_, ⊎-elim, inl, inr}
 use native.Mathlib.Omega.{arith}
 use Prim.Native.Nat.{ℕ, _<_, _≤_}
 use lib.Dec.{eqb, ltb}
@@ -66,8 +67,13 @@ by-lt {P} a b f g = go (ltb a b) refl
     go false e = g (ltb-false a b e)
 
 -- what holds of three numbers holds of one that is among them
+pub one-of-three : (P : ℕ → Type 0) (a b c : ℕ) → P a → P b → P c → (n : ℕ) → (n ≡ a) ⊎ ((n ≡ b) ⊎ (n ≡ c)) → P n
+one-of-three P a b c pa pb pc n l = ⊎-elim (λ (e : n ≡ a). rw e pa) (⊎-elim (λ (e : n ≡ b). rw e pb) (λ (e : n ≡ c). rw e pc)) l
+
+-- the same, where tests say so
 pub by-three : (n a b c : ℕ) → (eqb n a || eqb n b || eqb n c) ≡ true → (P : ℕ → Type 0) → P a → P b → P c → P n
 by-three n a b c e P pa pb pc =
-    either (eqb n a || eqb n b) (eqb n c) e
-    (λ t. either (eqb n a) (eqb n b) t (λ q. rw (eqb-true n a q) pa) (λ q. rw (eqb-true n b q) pb))
-    (λ q. rw (eqb-true n c q) pc)
+    one-of-three P a b c pa pb pc n
+    (either (eqb n a || eqb n b) (eqb n c) e
+    (λ t. either (eqb n a) (eqb n b) t (λ q. inl (eqb-true n a q)) (λ q. inr (inl (eqb-true n b q))))
+    (λ q. inr (inr (eqb-true n c q))))
