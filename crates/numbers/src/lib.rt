@@ -14,7 +14,7 @@ pub enum Read {
 
 // A number is in groups of seven bits, low group first, and a byte of 128 or more says that another group follows. The
 // place of a fault is where the number begins, or would begin: the list's length, where the list ends just before it.
-pub fn number_at(list: &[u8], at: usize) -> Read
+fn number_at(list: &[u8], at: usize) -> Read
     ensures { λ r. ⌜ r ≡ numberAt (now (list .entry)) at ⌝ }
 {
     let mut i = at;
@@ -60,19 +60,19 @@ pub fn number_at(list: &[u8], at: usize) -> Read
 }
 
 // The reader keeps the list and its present place.
-pub struct Reader<'a> {
-    pub list: &'a [u8],
-    pub at: usize,
+struct Reader<'a> {
+    list: &'a [u8],
+    at: usize,
 }
 
-pub fn new<'a>(list: &'a [u8], at: usize) -> Reader<'a>
+fn new<'a>(list: &'a [u8], at: usize) -> Reader<'a>
     ensures { λ r. ⌜ (r .list ≡ list .entry) × (r .at ≡ at) ⌝ }
 {
     Reader { list, at }
 }
 
 // The number at the reader's place. The answer has the place after it, where the next reader begins.
-pub fn next<'a>(r: Reader<'a>) -> Read
+fn next<'a>(r: Reader<'a>) -> Read
     ensures { λ n. ⌜ n ≡ numberAt (now (r .entry .list)) (r .entry .at) ⌝ }
 {
     number_at(r.list, r.at)

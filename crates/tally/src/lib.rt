@@ -9,7 +9,7 @@ pub struct Tally {
 }
 
 // The tally after one more word. The work is done here, by value, so that the functions below have none to do.
-pub fn added(tally: Tally, toggled: u32, written: u32) -> Tally
+fn added(tally: Tally, toggled: u32, written: u32) -> Tally
     requires { ⌜ (tally .toggled + toggled < 2 ^ 32) × (tally .written + written < 2 ^ 32) ⌝ }
     ensures { λ r. ⌜ r ≡ plus tally toggled written ⌝ }
 {
@@ -20,7 +20,7 @@ pub fn added(tally: Tally, toggled: u32, written: u32) -> Tally
 }
 
 // Brings the tally that is lent up to date by one word.
-pub fn add(tally: &mut Tally, toggled: u32, written: u32)
+fn add(tally: &mut Tally, toggled: u32, written: u32)
     requires { ⌜ (now tally .toggled + toggled < 2 ^ 32) × (now tally .written + written < 2 ^ 32) ⌝ }
     ensures { λ _. ⌜ now (tally .exit) ≡ plus (now (tally .entry)) toggled written ⌝ }
 {
