@@ -1,11 +1,12 @@
 -- Lists. Assumes nothing.
-use Prim.Native.Nat.{ℕ, zero, suc, _+_}
+use Prim.Native.Nat.{ℕ, zero, suc, _+_, _<_}
 use native.Mathlib.Omega.{arith}
 use mathlib.Core.Path.{_≡_, sym, ap, _∙_, subst}
 use mathlib.Core.Logic.{⊎-elim}
-use mathlib.Core.List.{List, [], _∷_, List·Memᴰ, List·Memᴰ·not-nil, List·Memᴰ·cases-cons}
-use lib.ListN.{length, getD, drop, drop-of-length-le}
-use lib.Seq.{drop-cons}
+use mathlib.Core.List.{List, [], _∷_, _++_, List·Memᴰ, List·Memᴰ·not-nil, List·Memᴰ·cases-cons}
+use lib.ListN.{length, getD, take, drop, take-append-drop, drop-of-length-le}
+use lib.Seq.{drop-cons, drop-drop, take-all, length-take-le}
+use Rattle.laws.proofs.Tests.{by-lt}
 use Rattle.laws.specs.Lists.{Each}
 
 -- what each element has, one of them has
@@ -24,3 +25,14 @@ unfolding elements
 elements-are zero at l e = sym (drop-of-length-le l {i = at} (omega arith))
 elements-are (suc k) at l e =
     ap (λ (t : List ℕ). getD l at 0 ∷ t) (elements-are k (suc at) l (omega arith)) ∙ sym (drop-cons l at 0 (omega arith))
+
+-- tails that agree agree further on
+pub drop-more : (k i : ℕ) (xs ys : List ℕ) → drop i xs ≡ drop i ys → drop (i + k) xs ≡ drop (i + k) ys
+drop-more k i xs ys e = sym (drop-drop k i xs) ∙ ap (drop k) e ∙ drop-drop k i ys
+
+-- where nothing past the first k elements is looked at, they decide
+pub first-decide : {A : Type 0} (f : List ℕ → A) (k : ℕ) → ((xs ys : List ℕ) → length xs ≡ k → f (xs ++ ys) ≡ f xs) → (list : List ℕ) → f (take k list) ≡ f list
+first-decide f k far list =
+    by-lt (length list) k
+    (λ (s : length list < k). ap f (take-all k list (omega arith)))
+    (λ l. sym (far (take k list) (drop k list) (length-take-le k list l)) ∙ ap f (take-append-drop k list))

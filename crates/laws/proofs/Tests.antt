@@ -12,6 +12,13 @@ pub both : (s t : Bool) → (s && t) ≡ true → (s ≡ true) × (t ≡ true)
 both true t e = (refl, e)
 both false t e = (e, elim t [ true ↦ refl | false ↦ e ])
 
+-- the three parts of a conjunction that passed
+pub all-three : (s t u : Bool) → (s && t && u) ≡ true → (s ≡ true) × (t ≡ true) × (u ≡ true)
+all-three s t u e =
+    let last = both (s && t) u e in
+    let first = both s t (last .0) in
+    (first .0, first .1, last .1)
+
 -- a test does not both pass and fail
 pub never-both : (t : Bool) → t ≡ true → t ≡ false → ⊥
 never-both t p q = let z : _≡_ {A = ℕ} 0 1 = cc in omega arith

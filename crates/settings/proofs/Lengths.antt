@@ -1,9 +1,11 @@
 -- The lengths that valid settings give. Assumes nothing.
 use Prim.Native.Nat.{ℕ, _*_, _/_, _≤_}
 use mathlib.Core.Path.{_≡_, refl}
-use mathlib.Core.Bool.{true, _&&_}
+use mathlib.Core.Bool.{true}
+use native.Mathlib.Nat.{mul-le-mul}
+use native.Mathlib.Omega.{arith}
 use lib.Dec.{lit≤}
-use Rattle.laws.proofs.Tests.{both, by-three}
+use Rattle.laws.proofs.Tests.{all-three, by-three}
 use Rattle.settings.specs.Lengths.{VectorLength}
 use Rattle.settings.specs.Valid.{validLength, validFeatures, validModes, validSettings, vectorBytes, arrayBytes}
 use Rattle.settings.specs.declared.Settings.{Settings}
@@ -12,13 +14,10 @@ use Rattle.settings.specs.declared.Settings.{Settings}
 pub valid-parts : (s : Settings) → validSettings s ≡ true
     → (validLength (s .vl) ≡ true) × (validFeatures (s .features .0) ≡ true) × (validModes (s .features .0) (s .modes .0) ≡ true)
 unfolding validSettings
-valid-parts s v =
-    let first = both (validLength (s .vl) && validFeatures (s .features .0)) (validModes (s .features .0) (s .modes .0)) v in
-    let parts = both (validLength (s .vl)) (validFeatures (s .features .0)) (first .0) in
-    (parts .0, parts .1, first .1)
+valid-parts s = all-three (validLength (s .vl)) (validFeatures (s .features .0)) (validModes (s .features .0) (s .modes .0))
 
 -- what holds of the three lengths holds of every valid one
-pub by-length : (vl : ℕ) → validLength vl ≡ true → (P : ℕ → Type 0) → P 128 → P 256 → P 512 → P vl
+by-length : (vl : ℕ) → validLength vl ≡ true → (P : ℕ → Type 0) → P 128 → P 256 → P 512 → P vl
 by-length vl = by-three vl 128 256 512
 
 -- 512 bits are the most
@@ -57,3 +56,9 @@ module _ (s : Settings) (v : validSettings s ≡ true) where
 pub same-length : (s : Settings) → arrayBytes s ≡ vectorBytes s
 unfolding vectorBytes arrayBytes
 same-length s = refl
+
+-- ZA has at most 64 times 64 bytes
+pub array-at-most : (s : Settings) → validSettings s ≡ true → (x : ℕ) → x ≡ arrayBytes s → x * x ≤ 4096
+array-at-most s v x e =
+    let b : x ≤ 64 = omega (arith, e, same-length s, vector-at-most s v) in
+    mul-le-mul b b

@@ -2,9 +2,10 @@
 use Prim.Native.Nat.{ℕ, _<_}
 use mathlib.Core.Path.{_≡_, refl, sym, ap, _∙_}
 use mathlib.Core.Logic.{_≢_}
-use mathlib.Core.Bool.{cond}
+use mathlib.Core.Bool.{false, cond}
 use native.Mathlib.Omega.{arith}
 use lib.Dec.{eqb}
+use borrow.Author.Tests.{ne-eqb}
 use Rattle.settings.specs.Refused.{refusalNumber}
 use Rattle.settings.specs.declared.Refusal.{Refusal}
 use Rattle.settings.specs.declared.Refusal.the-variants.{BadSettings, BadLength, UnknownWord, WrongMode, NoSuchWord, NoPartner, ListEnds, BadNumber, TooManyWords, ExtraBytes}
@@ -51,6 +52,10 @@ refusal-not-0 ExtraBytes = omega arith
 
 pub not-0 : (r : Refusal) → refusalNumber r ≢ 0
 not-0 r e = omega (arith, refusal-not-0 r)
+
+-- as a test
+pub tests-not-0 : (r : Refusal) → eqb (refusalNumber r) 0 ≡ false
+tests-not-0 r = ne-eqb (refusalNumber r) 0 (not-0 r)
 
 -- every answer says a number and values: a refusal does not say the number 0
 pub refused-not-0 : {A : Type 0} (r : Refusal) (x y : A) → _≡_ {A = ℕ × A} (refusalNumber r, x) (0, y) → ⊥
