@@ -1,19 +1,21 @@
 -- A word that has given fields is the candidate of those fields: encode's refusal 5 rests on it, and so does the uniqueness of the word. Each
 -- row is one use of the inverse law of layouts, and the arithmetic of its fields. Assumes nothing.
-use Prim.Native.Nat.{ℕ, zero, suc, _+_, _*_, _/_, _%_, _^_, _<_}
+use Prim.Native.Nat.{ℕ, _+_, _*_, _/_, _%_, _^_, _<_}
 use native.Mathlib.Nat.{mod-eq-of-lt}
 use native.Mathlib.Omega.{arith}
 use mathlib.Core.Path.{_≡_, refl, _∙_}
 use mathlib.Core.List.{List}
 use mathlib.Core.Bool.{true, false}
 use lib.Dec.{eqb}
-use borrow.Author.Tests.{eqb-true, eqb-false, not-false}
+use borrow.Author.Tests.{eqb-true, not-false}
+use Rattle.laws.proofs.Bits.{one-bit}
 use Rattle.laws.proofs.Tests.{cond-holds, either, never-both}
 use Rattle.layouts.specs.Layout.{Layout, size, matches, value, build}
 use Rattle.layouts.proofs.Inverse.{Agrees, build-agrees}
 use Rattle.words.specs.Rows.{rowA, rowB, rowC16, rowC32, rowD2, rowD4, rowE2, rowE4}
 use Rattle.words.specs.Numbers.{bitOf}
 use Rattle.words.proofs.Numbers.{number-bit}
+use Rattle.words.proofs.Ranges.{by-size}
 use Rattle.words.specs.Says.{As, isOne, Row, entry, entryA, entryB, describe, fieldsA16, fieldsA32, fieldsB, fieldsC, fieldsD, fieldsE}
 use Rattle.words.specs.declared.Fields.{Fields}
 use Rattle.words.proofs.Table.{WhereSaid, said-each}
@@ -26,16 +28,10 @@ Undone r w = WhereSaid (λ (g : Fields). candidateOf g ≡ w) w r
 -- ---- the numbers of the fields
 
 lane-d : (x : ℕ) → x < 2 → (8 + 8 * x) / 16 % 2 ≡ x
-lane-d zero h = refl
-lane-d (suc zero) h = refl
-lane-d (suc (suc x)) h = absurd (omega arith)
+lane-d = one-bit (λ x. (8 + 8 * x) / 16 % 2 ≡ x) refl refl
 
 lane-b : (x : ℕ) → x < 4 → eqb x 3 ≡ false → 8 * 2 ^ x / 16 % 4 ≡ x
-lane-b zero h e = refl
-lane-b (suc zero) h e = refl
-lane-b (suc (suc zero)) h e = refl
-lane-b (suc (suc (suc zero))) h e = absurd (eqb-false 3 3 e refl)
-lane-b (suc (suc (suc (suc x)))) h e = absurd (omega arith)
+lane-b = by-size (λ x. 8 * 2 ^ x / 16 % 4 ≡ x) refl refl refl
 
 -- H:L:M, H:L and M:mmmm
 join3 : (h l m : ℕ) → h < 2 → l < 2 → m < 2 → ((h * 4 + l * 2 + m) / 4 % 2 ≡ h) × ((h * 4 + l * 2 + m) / 2 % 2 ≡ l) × ((h * 4 + l * 2 + m) % 2 ≡ m)

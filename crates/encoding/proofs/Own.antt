@@ -3,12 +3,12 @@
 use Prim.Native.Nat.{ℕ, _+_, _*_, _/_, _%_, _^_, _≤_}
 use native.Mathlib.Omega.{arith}
 use mathlib.Core.Path.{_≡_, refl, sym, ap, _∙_, subst}
-use mathlib.Core.Logic.{_⊎_, ⊎-elim}
+use mathlib.Core.Logic.{_⊎_}
 use mathlib.Core.List.{List, List·Memᴰ, List·Memᴰ·head as here, List·Memᴰ·tail as next}
 use mathlib.Core.Bool.{Bool, true, false, not, _||_, cond}
 use lib.Dec.{eqb}
 use lib.ListN.{getD}
-use Rattle.laws.proofs.Tests.{by-three, failed, never-both, cond-holds}
+use Rattle.laws.proofs.Tests.{one-of-three, by-three, failed, never-both, cond-holds}
 use Rattle.layouts.specs.Layout.{Layout, size, matches, value, parts, build}
 use Rattle.layouts.proofs.Inverse.{Fit, parts-build}
 use Rattle.words.specs.Rows.{rowA, rowB, rowC16, rowC32, rowD2, rowD4, rowE2, rowE4}
@@ -112,7 +112,7 @@ b f w l e =
     ∙ row-says entryB (next (here refl)) (valuesB f) (fit-b f) f w (ap (λ (x : ℕ). eqb x 0b11) ss ∙ back .0) e
 
 lane-known : (lane : ℕ) → (lane ≡ 8) ⊎ ((lane ≡ 16) ⊎ (lane ≡ 32)) → laneB lane ≡ true
-lane-known lane = ⊎-elim (λ e. rw e) (⊎-elim (λ e. rw e) (λ e. rw e))
+lane-known = one-of-three (λ n. laneB n ≡ true) 8 16 32 refl refl refl
 
 -- no word has another lane
 no-lane : (f : Fields) (w : ℕ) → laneB (f .lane) ≡ false → false ≡ saysOnly f (describe w)

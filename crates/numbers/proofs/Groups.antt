@@ -7,6 +7,7 @@ use mathlib.Core.List.{List, _∷_}
 use native.Mathlib.Omega.{arith}
 use lib.Dec.{eqb, ltb}
 use borrow.Author.Tests.{lt-ltb, le-ltb, eq-eqb, ne-eqb, ltb-true, ltb-false, eqb-true}
+use Rattle.laws.proofs.Tests.{both, failed}
 use Rattle.numbers.specs.Numbers.{got, wrong, onto, most, numeral}
 
 -- ---- the greatest byte
@@ -35,11 +36,7 @@ fifth-great k b s e h = simp (eq-eqb k 4 e, lt-ltb 15 b h)
 
 -- no last of several groups is zero
 not-zero : (k b : ℕ) → (b ≡ 0 → k ≡ 0) → (eqb b 0 && ltb 0 k) ≡ false
-not-zero k b h = go (eqb b 0) refl
-  where
-    go : (t : Bool) → eqb b 0 ≡ t → (t && ltb 0 k) ≡ false
-    go true e = le-ltb 0 k (omega (arith, h (eqb-true b 0 e)))
-    go false e = refl
+not-zero k b h = failed _ (λ e. let p = both (eqb b 0) (ltb 0 k) e in omega (arith, h (eqb-true b 0 (p .0)), ltb-true 0 k (p .1)))
 
 -- a count above some number is not 0
 pub several : (n k : ℕ) → ltb n k ≡ true → 0 < k

@@ -6,7 +6,7 @@ use mathlib.Core.List.{List, [], _∷_, _++_, append-assoc, append-nil}
 use native.Mathlib.Omega.{arith}
 use native.Mathlib.Nat.{add-zero, add-suc}
 use native.Mathlib.Numerals.{add-one}
-use lib.ListN.{length, getD, take, drop, set, length-append, length-set, take-append-drop}
+use lib.ListN.{length, getD, take, drop, set, length-append, length-set, take-append-drop, List·getD-append}
 use lib.Seq.{drop-length, length-take-le, take-suc-set, drop-set-lt, drop-drop}
 use Rattle.settings.specs.declared.Refusal.{Refusal}
 use Rattle.settings.specs.declared.Refusal.the-variants.{ListEnds, BadNumber}
@@ -94,10 +94,6 @@ row-within list at (suc n) ws p h e =
     let b = row-within list at n (l .before) (l .place) h (l .row) in
     (omega arith, w .inside, omega arith)
 
-first-stays : (ws : List ℕ) (w : ℕ) → 0 < length ws → getD (ws ++ w ∷ []) 0 0 ≡ getD ws 0 0
-first-stays [] w h = absurd (omega arith)
-first-stays (x ∷ ws) w h = refl
-
 -- the first number of a row stands at the row's place
 pub row-first : (list : List ℕ) (at n : ℕ) (ws : List ℕ) (p : ℕ) → numbersAt list at (suc n) ≡ all ws p → (q : ℕ) × (numberAt list at ≡ Number (getD ws 0 0) q)
 unfolding numbersAt
@@ -111,7 +107,7 @@ row-first list at (suc n) ws p e =
     let l = last-of list (numbersAt list at (suc n)) ws p e in
     let b = row-first list at n (l .before) (l .place) (l .row) in
     let some : 0 < length (l .before) = omega (arith, row-count list at (suc n) (l .before) (l .place) (l .row)) in
-    let same : getD ws 0 0 ≡ getD (l .before) 0 0 = ap (λ (x : List ℕ). getD x 0 0) (l .numbers) ∙ first-stays (l .before) (l .value) some in
+    let same : getD ws 0 0 ≡ getD (l .before) 0 0 = ap (λ (x : List ℕ). getD x 0 0) (l .numbers) ∙ List·getD-append (l .before) (l .value ∷ []) 0 0 some in
     (b .0, b .1 ∙ ap (λ (v : ℕ). Number v (b .0)) (sym same))
 
 -- bytes after the list change nothing in a row that was read
@@ -156,7 +152,7 @@ unfolding puts
 puts-last [] w = append-nil (put w)
 puts-last (x ∷ ws) w = ap (λ (t : List ℕ). put x ++ t) (puts-last ws w) ∙ sym (append-assoc (put x) (puts ws) (put w))
 
--- a shortest form has at most five bytes
+-- the shortest forms of a row have at most five bytes each
 pub put-lengths-few : (ws : List ℕ) → length (puts ws) ≤ 5 * length ws
 unfolding puts
 put-lengths-few [] = omega arith

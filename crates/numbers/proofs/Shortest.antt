@@ -2,14 +2,15 @@
 use Prim.Native.Nat.{ℕ, zero, suc, _+_, _-_, _*_, _/_, _%_, _^_, _≤_, _<_}
 use mathlib.Core.Path.{_≡_, refl, sym, ap, ap₂, subst₂, _∙_}
 use mathlib.Core.Logic.{_≢_}
-use mathlib.Core.Bool.{Bool, true, false, cond}
+use mathlib.Core.Bool.{false}
 use mathlib.Core.List.{List, [], _∷_, _++_}
 use native.Mathlib.Omega.{arith}
-use native.Mathlib.Nat.{pow-suc}
+use native.Mathlib.Nat.{pow-suc, one-le-pow}
 use native.Mathlib.Decide.{decLt}
 use lib.Dec.{ltb}
 use lib.ListN.{length, take}
 use borrow.Author.Tests.{lt-ltb, le-ltb}
+use Rattle.laws.proofs.Tests.{cond-holds}
 use Rattle.numbers.specs.Numbers.{Got, got, short, wrong, onto, most, numeral, putIn, put}
 use Rattle.numbers.specs.Theorems.{ReadBack, ReadShortest, ReadSmall, OneForm}
 use Rattle.numbers.proofs.Groups.{fits-fifth, fits-other, fifth-small, other-small, fifth-last, last-group, group-follows, Front, faulty, ends, goes-on, front}
@@ -28,20 +29,14 @@ put-more f n h = rw (le-ltb n 128 h)
 put-some : (f n : ℕ) → 0 < length (putIn f n)
 unfolding putIn
 put-some zero n = omega arith
-put-some (suc f) n = go (ltb n 128)
-  where
-    go : (t : Bool) → 0 < length (cond t (n ∷ []) ((128 + n % 128) ∷ putIn f (n / 128)))
-    go true = omega arith
-    go false = omega arith
+put-some (suc f) n = cond-holds (λ (l : List ℕ). 0 < length l) (ltb n 128) (n ∷ []) ((128 + n % 128) ∷ putIn f (n / 128)) (λ _. omega arith) (λ _. omega arith)
 
 put-few : (f n : ℕ) → length (putIn f n) ≤ suc f
 unfolding putIn
 put-few zero n = omega arith
-put-few (suc f) n = go (ltb n 128) (put-few f (n / 128))
-  where
-    go : (t : Bool) → length (putIn f (n / 128)) ≤ suc f → length (cond t (n ∷ []) ((128 + n % 128) ∷ putIn f (n / 128))) ≤ suc (suc f)
-    go true h = omega arith
-    go false h = omega arith
+put-few (suc f) n =
+    cond-holds (λ (l : List ℕ). length l ≤ suc (suc f)) (ltb n 128) (n ∷ []) ((128 + n % 128) ∷ putIn f (n / 128))
+    (λ _. omega arith) (λ _. omega (arith, put-few f (n / 128)))
 
 -- a number has one to five bytes
 pub put-length : (v : ℕ) → (0 < length (put v)) × (length (put v) ≤ 5)
@@ -94,13 +89,9 @@ record Whole (k f : ℕ) (s : List ℕ) (v n : ℕ) : Type 0 where
   pub small : v < 16 * 128 ^ f
   pub first : v ≡ 0 → k ≡ 0
 
-one-or-more : (j : ℕ) → 1 ≤ 128 ^ j
-one-or-more zero = omega arith
-one-or-more (suc j) = omega (arith, one-or-more j, pow-suc 128 j)
-
 last-small : (k f b : ℕ) → k + f ≡ 4 → ltb (most k) b ≡ false → b < 128 → b < 16 * 128 ^ f
 last-small k zero b e h l = omega (arith, fifth-small k b (omega arith) h)
-last-small k (suc f) b e h l = omega (arith, pow-suc 128 f, one-or-more f)
+last-small k (suc f) b e h l = omega (arith, pow-suc 128 f, one-le-pow f 128 (omega arith))
 
 whole-last : (k f b : ℕ) (s : List ℕ) → k + f ≡ 4 → ltb (most k) b ≡ false → b < 128 → (b ≡ 0 → k ≡ 0) → Whole k f (b ∷ s) b 1
 whole-last k f b s e h l z =

@@ -3,9 +3,9 @@
 use Prim.Native.Nat.{ℕ, zero, suc, _/_, _%_, _<_}
 use native.Mathlib.Omega.{arith}
 use mathlib.Core.Path.{_≡_, refl, sym, _∙_}
-use mathlib.Core.Bool.{Bool, true, false, not, _&&_, _||_}
-use lib.Dec.{eqb, leb, ltb}
-use borrow.Author.Tests.{ltb-true, lt-ltb, leb-false, le-leb, eqb-true, eq-eqb, not-true}
+use mathlib.Core.Bool.{Bool, true, false, not, _&&_, _||_, and-true}
+use lib.Dec.{eqb, leb, ltb, leb·zero}
+use borrow.Author.Tests.{ltb-true, lt-ltb, leb-false, eqb-true, eq-eqb, not-true}
 use Rattle.laws.proofs.Tests.{both, either, never-both}
 use Rattle.settings.specs.Sets.{hasFeatures, sme, sme2, i16i64, hasModes, sm, za}
 use Rattle.settings.specs.Valid.{validFeatures, validModes}
@@ -40,27 +40,19 @@ alike false false k l = refl
 without : (x s : Bool) → s ≡ false → (not x || s) ≡ true → x ≡ false
 without x s h e = either (not x) s e (λ n. not-true x n) (λ y. absurd (never-both s y h))
 
--- a bit that is not named is not asked for
-not-named : (x : ℕ) → leb 0 x ≡ true
-not-named x = le-leb 0 x (omega arith)
-
 -- a sum that lacks a named number has 0 at its bit
 lacks : (s : Bool) (x : ℕ) → leb 1 x ≡ s → s ≡ false → x ≡ 0
 lacks s x e h = let l = leb-false 1 x (e ∙ h) in omega arith
 
-and-true : (b : Bool) → (b && true) ≡ b
-and-true true = refl
-and-true false = refl
-
--- the bit that each feature's test reads
+-- the bit that each feature's test reads: a bit that is not named is not asked for
 sme-at : (f : ℕ) → leb 1 (f / 4 % 2) ≡ hasFeatures f sme
-sme-at f = simp (not-named, and-true)
+sme-at f = simp (leb·zero, and-true)
 
 sme2-at : (f : ℕ) → leb 1 (f / 8 % 2) ≡ hasFeatures f sme2
-sme2-at f = simp (not-named, and-true)
+sme2-at f = simp (leb·zero, and-true)
 
 i16i64-at : (f : ℕ) → leb 1 (f / 16 % 2) ≡ hasFeatures f i16i64
-i16i64-at f = simp not-named
+i16i64-at f = simp leb·zero
 
 below-4 : (f : ℕ) → hasFeatures f sme ≡ false → validFeatures f ≡ true → f < 4
 below-4 f h v =
@@ -89,8 +81,8 @@ no-mode f m h v =
     let a = both _ _ v in
     let b = both _ _ (a .0) in
     let most = ltb-true m 4 (b .0) in
-    let no-sm : m % 2 ≡ 0 = lacks _ _ (simp (not-named, and-true)) (without (hasModes m sm) _ h (b .1)) in
-    let no-za : m / 2 % 2 ≡ 0 = lacks _ _ (simp not-named) (without (hasModes m za) _ h (a .1)) in
+    let no-sm : m % 2 ≡ 0 = lacks _ _ (simp (leb·zero, and-true)) (without (hasModes m sm) _ h (b .1)) in
+    let no-za : m / 2 % 2 ≡ 0 = lacks _ _ (simp leb·zero) (without (hasModes m za) _ h (a .1)) in
     omega arith
 
 zero-valid : (f m : ℕ) → m ≡ 0 → validModes f m ≡ true

@@ -2,10 +2,10 @@
 use Prim.Native.Nat.{ℕ, zero, suc, _+_, _*_, _/_, _%_, _^_, _<_}
 use native.Mathlib.Omega.{arith}
 use mathlib.Core.Path.{_≡_, refl, ap, _∙_}
-use mathlib.Core.Logic.{_⊎_, inl, inr, _≢_}
+use mathlib.Core.Logic.{_⊎_, _≢_}
 use mathlib.Core.List.{_++_}
 use mathlib.Core.Bool.{true, false}
-use Rattle.laws.proofs.Tests.{never-both}
+use Rattle.laws.proofs.Tests.{never-both, one-of-three}
 use Rattle.layouts.proofs.Apart.{other-top}
 use Rattle.words.specs.Rows.{rowC16, rowC32, rowD2, rowD4, rowE2, rowE4}
 use Rattle.words.specs.Says.{Described, As, Nothing, fieldsB, tableC, tableZa, saysFirst, describe}
@@ -63,9 +63,7 @@ not-reserved : (s : ℕ) → s < 4 → (8 * 2 ^ s ≡ 8) ⊎ ((8 * 2 ^ s ≡ 16)
 not-reserved zero h l = omega arith
 not-reserved (suc zero) h l = omega arith
 not-reserved (suc (suc zero)) h l = omega arith
-not-reserved (suc (suc (suc zero))) h (inl e) = absurd (omega arith)
-not-reserved (suc (suc (suc zero))) h (inr (inl e)) = absurd (omega arith)
-not-reserved (suc (suc (suc zero))) h (inr (inr e)) = absurd (omega arith)
+not-reserved (suc (suc (suc zero))) h l = let p : 64 < 64 = one-of-three (λ n. n < 64) 8 16 32 (omega arith) (omega arith) (omega arith) 64 l in absurd (omega arith)
 not-reserved (suc (suc (suc (suc s)))) h l = absurd (omega arith)
 
 -- so a word that says the fields of B has a size that is not reserved
@@ -73,9 +71,7 @@ pub size-of-b : (w : ℕ) → describe w ≡ As (fieldsB w) → w / 4194304 % 4 
 size-of-b w e = not-reserved (w / 4194304 % 4) (omega arith) (in-range w (fieldsB w) e .lane)
 
 some-lane : (l : ℕ) → (l ≡ 8) ⊎ ((l ≡ 16) ⊎ (l ≡ 32)) → 0 < l
-some-lane l (inl e) = omega arith
-some-lane l (inr (inl e)) = omega arith
-some-lane l (inr (inr e)) = omega arith
+some-lane = one-of-three (λ l. 0 < l) 8 16 32 (omega arith) (omega arith) (omega arith)
 
 -- no word says the zeros of a refusal
 pub says-zeros : (w : ℕ) → describe w ≡ As noFields → ⊥

@@ -3,6 +3,7 @@ use Prim.Native.Nat.{ℕ, zero, suc, _≤_}
 use native.Mathlib.Omega.{arith}
 use mathlib.Core.Path.{_≡_, refl, sym, ap, _∙_}
 use mathlib.Core.Bool.{Bool, true, false}
+use Rattle.laws.proofs.Bits.{one-bit}
 use Rattle.words.specs.Says.{isOne}
 use Rattle.words.specs.Numbers.{familyNumber, familyOf, bitOf}
 use Rattle.words.specs.declared.Family.{Family}
@@ -47,6 +48,4 @@ bit-back true = refl
 bit-back false = refl
 
 pub number-bit : (n : ℕ) → n ≤ 1 → bitOf (isOne n) ≡ n
-number-bit zero h = refl
-number-bit (suc zero) h = refl
-number-bit (suc (suc n)) h = absurd (omega arith)
+number-bit n h = one-bit (λ x. bitOf (isOne x) ≡ x) refl refl n (omega arith)

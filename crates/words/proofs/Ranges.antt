@@ -6,6 +6,7 @@ use mathlib.Core.Logic.{_⊎_, inl, inr}
 use mathlib.Core.Bool.{false}
 use lib.Dec.{eqb}
 use borrow.Author.Tests.{eqb-false}
+use Rattle.laws.proofs.Bits.{one-bit}
 use Rattle.laws.proofs.Tests.{cond-holds}
 use Rattle.words.specs.Rows.{rowC16, rowC32, rowD2, rowD4, rowE2, rowE4}
 use Rattle.words.specs.Says.{As, Row, entryA, entryB, entry, fieldsA16, fieldsA32, fieldsC, fieldsD, fieldsE, describe}
@@ -22,17 +23,19 @@ a16 w = record { lane = inr (inl refl); part = omega arith; index = omega arith;
 a32 : (w : ℕ) → Ranges (fieldsA32 w)
 a32 w = record { lane = inr (inr refl); part = omega arith; index = omega arith; destination = omega arith; first = omega arith; second = omega arith; of-family = refl }
 
+-- what holds of 0, 1 and 2 holds of any size of B that is not reserved
+pub by-size : (P : ℕ → Type 0) → P 0 → P 1 → P 2 → (s : ℕ) → s < 4 → eqb s 3 ≡ false → P s
+by-size P a b c zero h e = a
+by-size P a b c (suc zero) h e = b
+by-size P a b c (suc (suc zero)) h e = c
+by-size P a b c (suc (suc (suc zero))) h e = absurd (eqb-false 3 3 e refl)
+by-size P a b c (suc (suc (suc (suc s)))) h e = absurd (omega arith)
+
 b-lane : (s : ℕ) → s < 4 → eqb s 3 ≡ false → (8 * 2 ^ s ≡ 8) ⊎ ((8 * 2 ^ s ≡ 16) ⊎ (8 * 2 ^ s ≡ 32))
-b-lane zero h e = inl refl
-b-lane (suc zero) h e = inr (inl refl)
-b-lane (suc (suc zero)) h e = inr (inr refl)
-b-lane (suc (suc (suc zero))) h e = absurd (eqb-false 3 3 e refl)
-b-lane (suc (suc (suc (suc s)))) h e = absurd (omega arith)
+b-lane = by-size (λ s. (8 * 2 ^ s ≡ 8) ⊎ ((8 * 2 ^ s ≡ 16) ⊎ (8 * 2 ^ s ≡ 32))) (inl refl) (inr (inl refl)) (inr (inr refl))
 
 d-lane : (z : ℕ) → z < 2 → (8 + 8 * z ≡ 8) ⊎ (8 + 8 * z ≡ 16)
-d-lane zero h = inl refl
-d-lane (suc zero) h = inr refl
-d-lane (suc (suc z)) h = absurd (omega arith)
+d-lane = one-bit (λ z. (8 + 8 * z ≡ 8) ⊎ (8 + 8 * z ≡ 16)) (inl refl) (inr refl)
 
 wider : {n : ℕ} → (n ≡ 8) ⊎ (n ≡ 16) → (n ≡ 8) ⊎ ((n ≡ 16) ⊎ (n ≡ 32))
 wider (inl e) = inl e

@@ -1,5 +1,5 @@
 -- Flipping S flips `subtract` and nothing else: of each row, from the text of its layout. Assumes nothing.
-use Prim.Native.Nat.{ℕ, zero, suc, _/_, _%_, _<_}
+use Prim.Native.Nat.{ℕ, _/_, _%_, _<_}
 use native.Mathlib.Omega.{arith}
 use mathlib.Core.Path.{_≡_, refl, sym, ap}
 use mathlib.Core.Bool.{Bool, true, false, not, cond}
@@ -7,6 +7,8 @@ use lib.Dec.{eqb}
 use lib.Bits.{bitXor}
 use Prim.Native.Char.{code}
 use Rattle.laws.specs.Lists.{Each}
+use Rattle.laws.proofs.Bits.{one-bit}
+use Rattle.laws.proofs.Tests.{cond-holds}
 use Rattle.layouts.specs.Layout.{flip, maskOf}
 use Rattle.layouts.proofs.Flipped.{spares, flipped-agrees}
 use Rattle.words.specs.Rows.{rowA, rowB, rowC16, rowC32, rowD2, rowD4, rowE2, rowE4}
@@ -17,9 +19,7 @@ use Rattle.words.specs.declared.Fields.{Fields}
 
 -- a flipped bit
 not-one : (b x : ℕ) → b < 2 → bitXor b 1 ≡ x → isOne x ≡ not (isOne b)
-not-one zero x h e = ap isOne (sym e)
-not-one (suc zero) x h e = ap isOne (sym e)
-not-one (suc (suc b)) x h e = absurd (omega arith)
+not-one b x = one-bit (λ c. bitXor c 1 ≡ x → isOne x ≡ not (isOne c)) (λ e. ap isOne (sym e)) (λ e. ap isOne (sym e)) b
 
 -- w is the word. In each row S is one bit, which is flipped, and all other fields are kept. What the row says of the flipped word follows
 -- by putting equals for equals
@@ -101,8 +101,7 @@ module _ (w : ℕ) where
   turnedA = rw (sizeA-kept, turnedA16, turnedA32) (turned-choice (eqb (w / 4194304 % 4) 1) (fieldsA16 w) (fieldsA32 w))
 
   signA : (b : Bool) → signOf (cond b (fieldsA16 w) (fieldsA32 w) .family) ≡ 16384
-  signA true = refl
-  signA false = refl
+  signA b = cond-holds (λ (g : Fields). signOf (g .family) ≡ 16384) b (fieldsA16 w) (fieldsA32 w) (λ _. refl) (λ _. refl)
 
 -- the row keeps its match and its size, turns its fields, and has S where the family has it
 pub record Turns (r : Row) : Type 0 where

@@ -1,3 +1,4 @@
+-- `numbers::number_at` meets its contract: each turn and each way out by a law of Turns.antt. Assumes nothing.
 use Prim.Native.Nat.{_-_}
 use native.Mathlib.Omega.{arith}
 use mathlib.Core.Path.{_≡_, _∙_}
@@ -19,15 +20,12 @@ Inv-loop list at i₀ groups₀ scale₀ value₀ i groups scale value = Reading
 abbrev μ-loop : tie.MeasureT-loop
 μ-loop list at i₀ groups₀ scale₀ value₀ i groups scale value = length list - i
 
--- src/lib.rt:25:9
 loop-holds : tie.Need-loop-holds Inv-loop μ-loop
 loop-holds c = start _ _
 
--- src/lib.rt:32:20
 shared-slice-read-byte : tie.Need-shared-slice-read-byte Inv-loop μ-loop
 shared-slice-read-byte c = omega arith
 
--- src/lib.rt:32:20
 cast-byte : tie.Need-cast-byte Inv-loop μ-loop
 cast-byte c = omega (arith, c .shared-slice-known .given (c .before .before .loop .i))
 
@@ -40,15 +38,12 @@ passed c =
     (λ w. fits-other _ _ (w .left) (c .before .shared-slice-known .given (c .before .before .before .loop .i) .fits))
     (c .if2 .came)
 
--- src/lib.rt:50:32
 mul-t21 : tie.Need-mul-t21 Inv-loop μ-loop
 mul-t21 c = omega (arith, last-fits (c .before .before .before .before .before .loop .inv) _ (c .before .if4 .taken) (passed (c .before .before)))
 
--- src/lib.rt:50:24
 add-t22 : tie.Need-add-t22 Inv-loop μ-loop
 add-t22 c = record { fits = last-fits (c .before .before .before .before .before .loop .inv) _ (c .before .if4 .taken) (passed (c .before .before)) }
 
--- src/lib.rt:51:23
 add-t23 : tie.Need-add-t23 Inv-loop μ-loop
 add-t23 c = omega arith
 
@@ -60,48 +55,38 @@ goes-on c =
     follows (c .before .before .before .before .loop .inv) _
     (c .before .before .shared-slice-known .given (c .before .before .before .before .loop .i) .fits) (c .if4 .left) (passed (c .before))
 
--- src/lib.rt:54:18
 mul-value : tie.Need-mul-value Inv-loop μ-loop
 mul-value c = let f = goes-on c in omega arith
 
--- src/lib.rt:54:9
 add-value : tie.Need-add-value Inv-loop μ-loop
 add-value c = let f = goes-on c in omega arith
 
--- src/lib.rt:55:9
 mul-scale : tie.Need-mul-scale Inv-loop μ-loop
 mul-scale c = let f = goes-on c in omega arith
 
--- src/lib.rt:56:9
 add-groups : tie.Need-add-groups Inv-loop μ-loop
 add-groups c = omega (arith, c .before .before .before .before .loop .inv .few)
 
--- src/lib.rt:57:9
 add-i : tie.Need-add-i Inv-loop μ-loop
 add-i c = omega arith
 
--- src/lib.rt:25:9
 loop-less : tie.Need-loop-less Inv-loop μ-loop
 loop-less c = omega arith
 
--- src/lib.rt:25:9
 loop-again : tie.Need-loop-again Inv-loop μ-loop
 loop-again c =
     let e = c .before .before .before in
     turn (e .before .loop .inv) _ (goes-on c) (byte-first _ _ _ (e .if1 .left) ∙ group-follows _ _ _ (passed (c .before)) (c .if4 .left))
 
--- src/lib.rt:17:1
 returns : tie.Need-returns Inv-loop μ-loop
 returns c = out-ends (c .before .loop .inv) (c .if1 .taken)
 
--- src/lib.rt:17:1
 returns-2 : tie.Need-returns-2 Inv-loop μ-loop
 returns-2 c =
     let e = c .before .before .before in
     out-wrong (e .before .loop .inv)
     (byte-first _ _ _ (e .if1 .left) ∙ fifth-great _ _ _ (c .before .if2 .taken) (ltb-true 15 _ (c .if3 .taken)))
 
--- src/lib.rt:17:1
 returns-3 : tie.Need-returns-3 Inv-loop μ-loop
 returns-3 c =
     let e = c .before .before .before .before .before in
@@ -109,7 +94,6 @@ returns-3 c =
     (byte-first _ _ _ (e .if1 .left)
     ∙ zero-last _ _ _ (passed (c .before .before .before)) (c .before .if5 .taken) (several _ _ (c .if6 .taken)))
 
--- src/lib.rt:17:1
 returns-4 : tie.Need-returns-4 Inv-loop μ-loop
 returns-4 c =
     let e = c .before .before .before .before in

@@ -1,3 +1,4 @@
+-- `numbers::read_numbers` meets its contract: each turn and each way out by a law of Rows.antt. Assumes nothing.
 use Prim.Native.Nat.{_-_}
 use native.Mathlib.Omega.{arith}
 use mathlib.Core.Path.{sym, _∙_}
@@ -13,59 +14,46 @@ Inv-loop list at out₀ due₀ i₀ out due i = Filling list at out₀ out due i
 abbrev μ-loop : tie.MeasureT-loop
 μ-loop list at out₀ due₀ i₀ out due i = length out - i
 
--- src/lib.rt:101:5
 loop-holds : tie.Need-loop-holds Inv-loop μ-loop
 loop-holds c = begin _ _ _
 
--- src/lib.rt:102:15
 read-number-requires : tie.Need-read-number-requires Inv-loop μ-loop
 read-number-requires c κs = search needs
 
--- src/lib.rt:103:28
 enum-known-value : tie.Need-enum-known-value Inv-loop μ-loop
 enum-known-value c = search needs
 
--- src/lib.rt:104:17
 mul-out : tie.Need-mul-out Inv-loop μ-loop
 mul-out c = search needs
 
--- src/lib.rt:104:17
 slice-write-out : tie.Need-slice-write-out Inv-loop μ-loop
 slice-write-out c = search needs
 
--- src/lib.rt:106:17
 add-i : tie.Need-add-i Inv-loop μ-loop
 add-i c = search needs
 
--- src/lib.rt:101:5
 loop-less : tie.Need-loop-less Inv-loop μ-loop
 loop-less c = simp length-set (omega arith)
 
--- src/lib.rt:101:5
 loop-again : tie.Need-loop-again Inv-loop μ-loop
 loop-again c =
     let l = c .before .before .before .before in
     one-more (l .before .loop .inv) _ _ (l .loop-test .taken) (sym (c .before .before .before .read-number .ensures) ∙ c .before .value .given .1)
 
--- src/lib.rt:108:27
 enum-known-refusal : tie.Need-enum-known-refusal Inv-loop μ-loop
 enum-known-refusal c = search needs
 
--- src/lib.rt:109:17
 same-length : tie.Need-same-length Inv-loop μ-loop
 same-length c = search needs
 
--- src/lib.rt:109:17
 returns : tie.Need-returns Inv-loop μ-loop
 returns c =
     let l = c .before .before .before .before in
     out-fault (l .before .loop .inv) _ _ (l .loop-test .taken) (sym (c .before .before .before .read-number .ensures) ∙ c .before .refusal .given .1)
 
--- src/lib.rt:95:1
 same-length-2 : tie.Need-same-length-2 Inv-loop μ-loop
 same-length-2 c = search needs
 
--- src/lib.rt:95:1
 returns-2 : tie.Need-returns-2 Inv-loop μ-loop
 returns-2 c = out-all (c .before .loop .inv) (c .loop-test .left)
 

@@ -1,7 +1,8 @@
 -- `words::kind_of` meets its contract: the rows of A and B, then the rows that the top byte leaves, by the laws of ByKind.antt. Assumes nothing.
-use mathlib.Core.Path.{_∙_}
+use mathlib.Core.Path.{_≡_, _∙_}
+use mathlib.Core.List.{_++_}
 use borrow.Author.Needs.{needs}
-use Rattle.words.specs.Says.{describe}
+use Rattle.words.specs.Says.{tableC, tableZa, saysFirst, describe}
 use Rattle.words.specs.Kinds.{saysAs}
 use Rattle.words.proofs.ByKind.{only-c, only-za, no-row}
 use Rattle.words.proofs.kind_of.Statement.{statement}
@@ -41,29 +42,26 @@ kind-c-requires c κs = search needs
 kind-za-requires : tie.Need-kind-za-requires
 kind-za-requires c κs = search needs
 
-returns-3 : tie.Need-returns-3
+-- where neither the row of A nor that of B matches, the rows after them say it
+after-b : (c : tie.Else2) → describe (c .before .before .before .before .args .w) ≡ saysFirst (tableC ++ tableZa) (c .before .before .before .before .args .w)
 unfolding describe
+after-b c = rw (← c .before .before .before .is-a .ensures, c .before .before .if1 .left, ← c .before .is-b .ensures, c .if2 .left)
+
+returns-3 : tie.Need-returns-3
 returns-3 c =
     let e = c .before .before in
-    let s = e .before .before .before .before in
-    rw (← e .before .before .before .is-a .ensures, e .before .before .if1 .left, ← e .before .is-b .ensures, e .if2 .left)
-    (only-c (s .args .w) (s .fits .w .fits) (c .before .match .keys1) ∙ c .kind-c .ensures)
+    after-b e ∙ only-c _ (e .before .before .before .before .fits .w .fits) (c .before .match .keys1) ∙ c .kind-c .ensures
 
 returns-4 : tie.Need-returns-4
-unfolding describe
 returns-4 c =
     let e = c .before .before in
-    let s = e .before .before .before .before in
-    rw (← e .before .before .before .is-a .ensures, e .before .before .if1 .left, ← e .before .is-b .ensures, e .if2 .left)
-    (only-za (s .args .w) (s .fits .w .fits) (c .before .match .keys2) ∙ c .kind-za .ensures)
+    after-b e ∙ only-za _ (e .before .before .before .before .fits .w .fits) (c .before .match .keys2) ∙ c .kind-za .ensures
 
 returns-5 : tie.Need-returns-5
-unfolding describe saysAs
+unfolding saysAs
 returns-5 c =
     let e = c .before in
-    let s = e .before .before .before .before in
-    rw (← e .before .before .before .is-a .ensures, e .before .before .if1 .left, ← e .before .is-b .ensures, e .if2 .left)
-    (no-row (s .args .w) (s .fits .w .fits) (c .match .rest .0 .1) (c .match .rest .1))
+    after-b e ∙ no-row _ (e .before .before .before .before .fits .w .fits) (c .match .rest .0 .1) (c .match .rest .1)
 
 pub kind-of-spec : {M : Type 1} → statement M
 kind-of-spec =
