@@ -6,7 +6,7 @@ use mathlib.Core.Path.{_≡_, refl, sym, _∙_}
 use mathlib.Core.Bool.{Bool, true, false, not, _&&_, _||_, and-true}
 use lib.Dec.{eqb, leb, ltb, leb·zero}
 use borrow.Author.Tests.{ltb-true, lt-ltb, leb-false, eqb-true, eq-eqb, not-true}
-use Rattle.laws.proofs.Tests.{both, either, never-both}
+use Rattle.laws.proofs.Tests.{all-three, either, never-both}
 use Rattle.settings.specs.Sets.{hasFeatures, sme, sme2, i16i64, hasModes, sm, za}
 use Rattle.settings.specs.Valid.{validFeatures, validModes}
 
@@ -56,12 +56,11 @@ i16i64-at f = simp leb·zero
 
 below-4 : (f : ℕ) → hasFeatures f sme ≡ false → validFeatures f ≡ true → f < 4
 below-4 f h v =
-    let a = both _ _ v in
-    let b = both _ _ (a .0) in
-    let below-32 = ltb-true f 32 (b .0) in
-    let no-i16i64 : f / 16 % 2 ≡ 0 = lacks _ _ (i16i64-at f) (without _ _ h (a .1)) in
+    let rules = all-three _ _ _ v in
+    let below-32 = ltb-true f 32 (rules .0) in
+    let no-i16i64 : f / 16 % 2 ≡ 0 = lacks _ _ (i16i64-at f) (without _ _ h (rules .2)) in
     let below-16 : f < 16 = omega arith in
-    let no-sme2 : f / 8 % 2 ≡ 0 = lacks _ _ (sme2-at f) (without _ _ h (b .1)) in
+    let no-sme2 : f / 8 % 2 ≡ 0 = lacks _ _ (sme2-at f) (without _ _ h (rules .1)) in
     let below-8 : f < 8 = omega arith in
     let no-sme : f / 4 % 2 ≡ 0 = lacks _ _ (sme-at f) h in
     omega arith
@@ -78,11 +77,10 @@ features-without f h = alike (ltb f 4) (validFeatures f) (λ e. four-valid f (lt
 
 no-mode : (f m : ℕ) → hasFeatures f sme ≡ false → validModes f m ≡ true → m ≡ 0
 no-mode f m h v =
-    let a = both _ _ v in
-    let b = both _ _ (a .0) in
-    let most = ltb-true m 4 (b .0) in
-    let no-sm : m % 2 ≡ 0 = lacks _ _ (simp (leb·zero, and-true)) (without (hasModes m sm) _ h (b .1)) in
-    let no-za : m / 2 % 2 ≡ 0 = lacks _ _ (simp leb·zero) (without (hasModes m za) _ h (a .1)) in
+    let rules = all-three _ _ _ v in
+    let most = ltb-true m 4 (rules .0) in
+    let no-sm : m % 2 ≡ 0 = lacks _ _ (simp (leb·zero, and-true)) (without (hasModes m sm) _ h (rules .1)) in
+    let no-za : m / 2 % 2 ≡ 0 = lacks _ _ (simp leb·zero) (without (hasModes m za) _ h (rules .2)) in
     omega arith
 
 zero-valid : (f m : ℕ) → m ≡ 0 → validModes f m ≡ true
