@@ -10,22 +10,13 @@ use lib.Seq.{drop-drop, length-take-le}
 use lib.Pow.{shr-shr, field, mod-mod-pow}
 use lib.Bits.{differ}
 use lib.Dec.{lit<}
+use Rattle.laws.proofs.Bits.{one-bit, two-bits}
 use Rattle.elements.specs.Elements.{splice}
 use Rattle.elements.proofs.Files.{length-splice, take-splice, part-splice, drop-splice}
 use Rattle.bits.specs.Bits.{overBits, overBytes, toggled}
 
 pub two-lt : (x : ℕ) → x % 2 < 2
 two-lt x = mod-lt x (lit< tt)
-
--- what holds of the four pairs of bits holds of any two bits
-pub two-bits : (P : ℕ → ℕ → Type 0) → P 0 0 → P 0 1 → P 1 0 → P 1 1 → (x y : ℕ) → x < 2 → y < 2 → P x y
-two-bits P a b c d zero zero hx hy = a
-two-bits P a b c d zero (suc zero) hx hy = b
-two-bits P a b c d (suc zero) zero hx hy = c
-two-bits P a b c d (suc zero) (suc zero) hx hy = d
-two-bits P a b c d zero (suc (suc y)) hx hy = absurd (omega arith)
-two-bits P a b c d (suc zero) (suc (suc y)) hx hy = absurd (omega arith)
-two-bits P a b c d (suc (suc x)) y hx hy = absurd (omega arith)
 
 -- ---- what a test of two bits may have
 
@@ -38,8 +29,7 @@ abbrev pub Once : (ℕ → ℕ → ℕ) → Type 0
 Once f = (x y : ℕ) → x < 2 → y < 2 → f x y ≤ 1
 
 pub differ-unmoved : Unmoved differ
-differ-unmoved zero h = refl
-differ-unmoved (suc x) h = differ-unmoved x (omega arith)
+differ-unmoved = one-bit (λ x. differ x x ≡ 0) refl refl
 
 pub differ-once : Once differ
 differ-once = two-bits (λ x y. differ x y ≤ 1) (omega arith) (omega arith) (omega arith) (omega arith)

@@ -7,8 +7,9 @@ use lib.Arith.{digits-div, digits-mod, lt-one}
 use lib.Bits.{bitXor, differ, xor-step}
 use lib.Count.{ones, ones-step}
 use lib.Dec.{lit<}
+use Rattle.laws.proofs.Bits.{two-bits}
 use Rattle.bits.specs.Bits.{overBits}
-use Rattle.bits.proofs.Bits.{two-lt, two-bits}
+use Rattle.bits.proofs.Bits.{two-lt}
 
 -- the ones of an operation that goes bit by bit
 pub ones-over : (op f : ℕ → ℕ → ℕ) → op 0 0 ≡ 0 → ((a b : ℕ) → op a b ≡ op (a / 2) (b / 2) * 2 + f (a % 2) (b % 2))

@@ -56,6 +56,10 @@ pub record Turned (file₀ new : List ℕ) (at i t r : ℕ) (file′ : List ℕ)
   pub bits : t + r ≡ toggled file₀ file′
   pub long : length file′ ≡ length file₀
 
+-- what is not written yet stands as it was
+pub untouched : (file₀ new : List ℕ) (at i : ℕ) (file : List ℕ) → Upto file₀ new at i file → (j : ℕ) → getD file (at + i + j) 0 ≡ getD file₀ (at + i + j) 0
+untouched file₀ new at i file up j = rw up (written-after (element 8 new) 8 at file₀ (i / 8) (at + i + j) (omega arith))
+
 module _ (file₀ new : List ℕ) (at : ℕ) (fit : at + length new ≤ length file₀) (eights : length new % 8 ≡ 0) where
   -- one turn, from what its calls ensure
   pub turn : (i t before after : ℕ) (file file′ : List ℕ) → Bytes file₀ → i % 8 ≡ 0 → i < length new → Upto file₀ new at i file → t ≡ toggled file₀ file
@@ -65,8 +69,7 @@ module _ (file₀ new : List ℕ) (at : ℕ) (fit : at + length new ≤ length f
       let e : ℕ = i / 8 in
       let ie : i ≡ e * 8 = omega arith in
       let long : length file ≡ length file₀ = rw up (length-written (element 8 new) 8 at file₀ e) in
-      let agree : (j : ℕ) → j < 8 → getD file (at + i + j) 0 ≡ getD file₀ (at + i + j) 0 =
-      λ j q. rw up (written-after (element 8 new) 8 at file₀ e (at + i + j) (omega arith)) in
+      let agree : (j : ℕ) → j < 8 → getD file (at + i + j) 0 ≡ getD file₀ (at + i + j) 0 = λ j _. untouched file₀ new at i file up j in
       let old : before ≡ elementAt 8 (at + i) file₀ = eb ∙ elementAt-same 8 (at + i) (at + i) file file₀ agree in
       let count : ones (bitXor before after) ≡ overBits differ 64 before after = ones-xor 64 before after lb la in
       record {

@@ -9,16 +9,16 @@ use lib.Dec.{lit<}
 use lib.ListN.{length}
 use lib.Bits.{bitXor}
 use lib.Count.{ones}
-use Rattle.elements.specs.Elements.{elementAt, element, putAt}
+use Rattle.elements.specs.Elements.{elementAt, putAt}
 use Rattle.elements.specs.Size.{IsLane}
 use Rattle.elements.proofs.Elements.{Bytes, elementAt-same, elementAt-put-after}
 use Rattle.elements.proofs.Lanes.{by-lane}
-use Rattle.elements.proofs.Vectors.{written, written-turn, written-after, written-end, Bytes-vector}
+use Rattle.elements.proofs.Vectors.{written, written-turn, written-end, Bytes-vector}
 use Rattle.lanes.specs.Lane.{laneStep}
 use Rattle.bits.specs.Bits.{toggled}
 use Rattle.bits.specs.Replace.{Replaced}
 use Rattle.bits.proofs.Bits.{toggled-same}
-use Rattle.bits.proofs.Put.{Upto, Turned, few-ones, turn, all}
+use Rattle.bits.proofs.Put.{Upto, Turned, few-ones, untouched, turn, all}
 use Rattle.chunks.specs.Chunk.{strideStep, strideBytes, chunk, OfArray}
 use Rattle.chunks.proofs.Parts.{by-array}
 use Rattle.chunks.proofs.Strides.{Even, even-16, even-32, even-64, chunk-at, bytes-are, bytes-long}
@@ -31,11 +31,6 @@ module _ (lane wide w per : ℕ) (ev : Even wide w per) (u s : Bool) (old : List
   long : length New ≡ bytes
   long = bytes-long lane wide w per ev u s old at z x dx y dy by (bytes / 8) bytes (omega arith)
 
-  -- what is not written yet stands as it was
-  untouched : (o : ℕ) (file : List ℕ) → o % 8 ≡ 0 → Upto old New at o file → elementAt 8 (at + o) file ≡ elementAt 8 (at + o) old
-  untouched o file h up =
-      elementAt-same 8 (at + o) (at + o) file old (λ j q. rw up (written-after (element 8 New) 8 at old (o / 8) (at + o + j) (omega arith)))
-
   -- one turn, from what its calls ensure
   pub turned : (o t before after px py : ℕ) (file file′ : List ℕ) → o % 8 ≡ 0 → o < bytes → Upto old New at o file → t ≡ toggled old file
       → px ≡ x + o / 8 * per * dx → py ≡ y + o / 8 * per * dy
@@ -44,7 +39,8 @@ module _ (lane wide w per : ℕ) (ev : Even wide w per) (u s : Bool) (old : List
   turned o t before after px py file file′ h q up et ex ey eb ea lb la ef =
       let c : ℕ = o / 8 in
       let oc : 8 * c ≡ o = omega arith in
-      let own : before ≡ elementAt 8 (at + 8 * c) old = eb ∙ untouched o file h up ∙ ap (λ (k : ℕ). elementAt 8 (at + k) old) (sym oc) in
+      let own : before ≡ elementAt 8 (at + 8 * c) old =
+      eb ∙ elementAt-same 8 (at + o) (at + o) file old (λ j _. untouched old New at o file up j) ∙ ap (λ (k : ℕ). elementAt 8 (at + k) old) (sym oc) in
       let new : after ≡ elementAt 8 o New =
       ea
       ∙ chunk-at lane wide w per ev u s old at z x dx y dy by c (bytes / 8) before px py (omega arith) own ex ey

@@ -3,9 +3,9 @@ use mathlib.Core.Path.{_≡_, refl, sym, _∙_}
 use mathlib.Core.List.{List, [], _∷_, _++_}
 use mathlib.Core.Logic.{⊎-elim}
 use Prim.Native.Nat.{ℕ, zero, suc, _+_, _*_, _/_, _%_, _^_, _≤_, _<_}
-use native.Mathlib.Nat.{add-zero, add-suc, add-assoc, mul-assoc, mul-comm, mul-suc, add-mul, zero-mul, pow-suc, mul-le-mul-right, eq-or-lt-of-le, le-refl, mod-one, mod-lt, div-div-eq-div-mul}
+use native.Mathlib.Nat.{add-zero, add-suc, add-assoc, mul-assoc, mul-comm, mul-suc, add-mul, zero-mul, pow-suc, one-le-pow, mul-le-mul-right, eq-or-lt-of-le, le-refl, mod-one, mod-lt, div-div-eq-div-mul}
 use native.Mathlib.Omega.{arith}
-use lib.ListN.{length, getD, set, take, drop, length-set}
+use lib.ListN.{length, getD, take, drop, length-set}
 use lib.Seq.{getD-set-same, getD-set-other, getD-take, getD-drop}
 use lib.Pow.{pow-add}
 use lib.Arith.{mod-mul}
@@ -20,8 +20,7 @@ pow256 zero = refl
 pow256 (suc k) = rw (pow-suc, pow256 k, mul-suc 8 k, pow-add)
 
 pub pow256-pos : (k : ℕ) → 0 < 256 ^ k
-pow256-pos zero = lit< tt
-pow256-pos (suc k) = rw pow-suc (omega (arith, pow256-pos k))
+pow256-pos k = one-le-pow k 256 (lit< tt)
 
 -- ---- bytes of lists made of lists
 
@@ -99,12 +98,6 @@ unfolding putAt
 put-add j zero at v s = rw add-zero
 put-add j (suc k) at v s = rw (add-suc, put-add j k at v s, add-assoc, pow-add, div-div-eq-div-mul)
 
-set-below : (l : List ℕ) (i j a : ℕ) → j < i → getD (set l i a) j 0 ≡ getD l j 0
-set-below l i j a h = getD-set-other l i j a 0 (λ (e : j ≡ i). omega arith)
-
-set-above : (l : List ℕ) (i j a : ℕ) → i < j → getD (set l i a) j 0 ≡ getD l j 0
-set-above l i j a h = getD-set-other l i j a 0 (λ (e : j ≡ i). omega arith)
-
 module _ (at v : ℕ) (s : List ℕ) where
   pub length-put : (k : ℕ) → length (putAt k at v s) ≡ length s
   unfolding putAt
@@ -115,19 +108,19 @@ module _ (at v : ℕ) (s : List ℕ) where
   pub put-before : (k i : ℕ) → i < at → getD (putAt k at v s) i 0 ≡ getD s i 0
   unfolding putAt
   put-before zero i h = refl
-  put-before (suc k) i h = set-below (putAt k at v s) (at + k) i (v / 256 ^ k % 256) (omega arith) ∙ put-before k i h
+  put-before (suc k) i h = getD-set-other (putAt k at v s) (at + k) i (v / 256 ^ k % 256) 0 (λ (e : i ≡ at + k). omega arith) ∙ put-before k i h
 
   pub put-after : (k i : ℕ) → at + k ≤ i → getD (putAt k at v s) i 0 ≡ getD s i 0
   unfolding putAt
   put-after zero i h = refl
-  put-after (suc k) i h = set-above (putAt k at v s) (at + k) i (v / 256 ^ k % 256) (omega arith) ∙ put-after k i (omega arith)
+  put-after (suc k) i h = getD-set-other (putAt k at v s) (at + k) i (v / 256 ^ k % 256) 0 (λ (e : i ≡ at + k). omega arith) ∙ put-after k i (omega arith)
 
   pub put-in : (k i : ℕ) → at + k ≤ length s → i < k → getD (putAt k at v s) (at + i) 0 ≡ v / 256 ^ i % 256
   unfolding putAt
   put-in (suc k) i r h =
       ⊎-elim
       (λ (q : i ≡ k). rw q (getD-set-same (putAt k at v s) (at + k) (v / 256 ^ k % 256) 0 (rw (length-put k) (omega arith))))
-      (λ (q : i < k). set-below (putAt k at v s) (at + k) (at + i) (v / 256 ^ k % 256) (omega arith) ∙ put-in k i (omega arith) q)
+      (λ (q : i < k). getD-set-other (putAt k at v s) (at + k) (at + i) (v / 256 ^ k % 256) 0 (λ (e : at + i ≡ at + k). omega arith) ∙ put-in k i (omega arith) q)
       (eq-or-lt-of-le (omega arith))
   put-in zero i r h = absurd (omega arith)
 

@@ -173,12 +173,8 @@ pub renewed-undone : (writes : ℕ → Bool) (new again : ℕ → List ℕ) (w n
 unfolding renewed
 renewed-undone writes new again w n s long wide h =
     laid-cong (λ v. cond (writes v) (again v) (vectorAt w v (renewed writes new w n s))) (λ v. vectorAt w v s) n
-    (λ v l. by (writes v) (new v) (vectorAt w v s) (h v l) (vectorAt-renewed writes new w n s long wide v l))
+    (λ v l. cond-holds (λ (x : List ℕ). x ≡ vectorAt w v s) (writes v) (again v) _ (h v l) (λ q. vectorAt-renewed writes new w n s long wide v l ∙ rw q))
     ∙ laid-vectorAt w n s long
-  where
-    by : {x y : List ℕ} (b : Bool) (z t : List ℕ) → (b ≡ true → x ≡ t) → y ≡ cond b z t → cond b x y ≡ t
-    by true z t e f = e refl
-    by false z t e f = f
 
 -- ---- one vector after the other
 

@@ -13,7 +13,7 @@ use lib.Dec.{lit<}
 use Rattle.elements.specs.Elements.{elementAt, element, putAt, lowBytes, vector, splice}
 use Rattle.elements.proofs.Elements.{Bytes, Bytes-append, Bytes-lowBytes, pow256-pos, elementAt-lt, length-put, put-after, elementAt-put, elementAt-put-before}
 
--- the last of count elements ends within them
+-- each of count elements ends within them
 pub within : (e count k : ℕ) → e < count → e * k + k ≤ count * k
 within e count k h = rw (← suc-mul e k) (mul-le-mul-right k h)
 

@@ -1,13 +1,13 @@
 -- The low bits of an integer, for any number of bits. Assumes nothing.
 use mathlib.Core.Path.{_≡_, refl, sym, ap, _∙_}
 use Prim.Native.Nat.{ℕ, zero, suc, _+_, _-_, _*_, _/_, _%_, _^_, _<_, _≤_}
-use native.Mathlib.Nat.{mod-lt, mod-add-mod, add-mul-mod-self-right, div-add-mod', add-mul, one-mul}
+use native.Mathlib.Nat.{mod-lt, mod-add-mod, add-mul-mod-self-right}
 use native.Mathlib.Omega.{arith}
 use lib.IntN.{ℤ, pos, negsuc, _-ℤ_}
 use lib.Pow as Pow
 use lib.Pow.{pow-pos, pow-add, ones-sub-lt, mod-pow-add, mod-mod-pow}
 use borrow.Author.Tests.{lt-ltb, le-ltb}
-use Rattle.laws.proofs.Modulo.{cancel}
+use Rattle.laws.proofs.Modulo.{comp-is, cancel}
 use Rattle.laws.proofs.Tests.{by-lt}
 use Rattle.lanes.specs.Lane.{low}
 
@@ -35,7 +35,7 @@ unfolding low
 low-sub-is n a b = by-lt a b
     (λ h.
     let e : ((2 ^ n - 1) - (b - suc a) % 2 ^ n) + b ≡ a + ((b - suc a) / 2 ^ n + 1) * 2 ^ n =
-    omega (arith, div-add-mod' (b - suc a) (2 ^ n), mod-lt (b - suc a) (pow-pos n), add-mul ((b - suc a) / 2 ^ n) 1 (2 ^ n), one-mul (2 ^ n)) in
+    omega (arith, comp-is (2 ^ n) (b - suc a) (pow-pos n), mod-lt (b - suc a) (pow-pos n)) in
     ap (λ (z : ℤ). (low n z + b) % 2 ^ n) (minus-lt a b h) ∙ ap (λ (k : ℕ). k % 2 ^ n) e ∙ add-mul-mod-self-right a ((b - suc a) / 2 ^ n + 1) (2 ^ n))
     (λ h. let e : a - b + b ≡ a = omega arith in
     ap (λ (z : ℤ). (low n z + b) % 2 ^ n) (minus-ge a b h) ∙ mod-add-mod (a - b) (2 ^ n) b ∙ ap (λ (k : ℕ). k % 2 ^ n) e)

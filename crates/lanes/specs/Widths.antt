@@ -1,4 +1,4 @@
--- The widths that a step is asked for, and by how much the wrapping one raises its factors. Only contracts use this.
+-- The widths that a step is asked for, and by how much the wrapping one raises its factors. Only contracts and proofs use this.
 use Prim.Native.Nat.{ℕ, _+_, _-_, _^_, _≤_}
 use mathlib.Core.Path.{_≡_}
 use mathlib.Core.Logic.{_⊎_}

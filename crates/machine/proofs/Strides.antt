@@ -8,6 +8,7 @@ use mathlib.Core.List.{List}
 use lib.ListN.{length, drop}
 use Rattle.elements.specs.Size.{bytesOf, IsLane}
 use Rattle.elements.proofs.Elements.{elementAt-drop}
+use Rattle.elements.proofs.Lanes.{by-lane}
 use Rattle.elements.proofs.Vectors.{vector-cong}
 use Rattle.elements.proofs.Files.{next, room}
 use Rattle.words.specs.Ranges.{Ranges, OfFamily}
@@ -71,25 +72,14 @@ half-even (inr (inl h)) n part e = rw h (omega arith)
 half-even (inr (inr h)) n part e = rw h (omega arith)
 
 index-even : {lane : ℕ} → IsLane lane → (m index e : ℕ) → m + chosen (sizeOf lane) (each 0 index) e * bytesOf (sizeOf lane) ≡ m + index * (lane / 8) + e * (0 * (lane / 8))
-index-even (inl h) m index e = rw h (omega arith)
-index-even (inr (inl h)) m index e = rw h (omega arith)
-index-even (inr (inr h)) m index e = rw h (omega arith)
+index-even {lane} l m index e = rw (by-lane (λ n. bytesOf (sizeOf n) ≡ n / 8) refl refl refl lane l) (omega arith)
 
--- they lie in a register's first 16 bytes
+-- the lane at the index lies in a register's first 16 bytes, and the lanes of a half end with its 8
 index-in : {lane : ℕ} → IsLane lane → (index : ℕ) → index * lane < 128 → index * (lane / 8) + lane / 8 ≤ 16
-index-in (inl h) index = rw h (λ l. omega arith)
-index-in (inr (inl h)) index = rw h (λ l. omega arith)
-index-in (inr (inr h)) index = rw h (λ l. omega arith)
+index-in {lane} l index = by-lane (λ n. index * n < 128 → index * (n / 8) + n / 8 ≤ 16) (λ h. omega arith) (λ h. omega arith) (λ h. omega arith) lane l
 
-index-reach : {lane : ℕ} → IsLane lane → (m index long : ℕ) → index * lane < 128 → m + 16 ≤ long → m + index * (lane / 8) + (64 / lane - 1) * (0 * (lane / 8)) + lane / 8 ≤ long
-index-reach (inl h) m index long = rw h (λ l q. omega arith)
-index-reach (inr (inl h)) m index long = rw h (λ l q. omega arith)
-index-reach (inr (inr h)) m index long = rw h (λ l q. omega arith)
-
-half-reach : {lane : ℕ} → IsLane lane → (m part long : ℕ) → part < 2 → m + 16 ≤ long → m + part * 8 + (64 / lane - 1) * (1 * (lane / 8)) + lane / 8 ≤ long
-half-reach (inl h) m part long = rw h (λ l q. omega arith)
-half-reach (inr (inl h)) m part long = rw h (λ l q. omega arith)
-half-reach (inr (inr h)) m part long = rw h (λ l q. omega arith)
+half-ends : {lane : ℕ} → IsLane lane → (64 / lane - 1) * (1 * (lane / 8)) + lane / 8 ≡ 8
+half-ends {lane} = by-lane (λ n. (64 / n - 1) * (1 * (n / 8)) + n / 8 ≡ 8) refl refl refl lane
 
 module _ {f : Fields} {w : ℕ} {z : List ℕ} (p : Sources f w z) where
   -- where the code reads, and that it is there
@@ -112,10 +102,10 @@ module _ {f : Fields} {w : ℕ} {z : List ℕ} (p : Sources f w z) where
   second-there = omega (arith, register-there p (f .second) (source-lt f (p .ranges) .1), p .width .least)
 
   pub index-there : Reach (f .lane) (64 / f .lane) z (f .second * w + f .index * (f .lane / 8)) (0 * (f .lane / 8))
-  index-there = index-reach (p .ranges .lane) (f .second * w) (f .index) (length z) (p .ranges .index) second-there
+  index-there = omega (arith, index-in (p .ranges .lane) (f .index) (p .ranges .index), second-there)
 
   pub pairs-there : Reach (f .lane) (64 / f .lane) z (f .second * w + f .part * 8) (1 * (f .lane / 8))
-  pairs-there = half-reach (p .ranges .lane) (f .second * w) (f .part) (length z) (p .ranges .part) second-there
+  pairs-there = omega (arith, half-ends (p .ranges .lane), p .ranges .part, second-there)
 
   v-renewal : IntoV f → (y dy : ℕ) → Even (recipeOf (f .family) f 0) (f .lane) (2 * f .lane) (f .unsigned) (f .subtract) (f .first * w) X (f .lane / 8) (f .second * w) y dy
       → (z′ : List ℕ) (t : ℕ)

@@ -12,6 +12,7 @@ use Rattle.words.specs.declared.Family.{Family}
 use Rattle.words.specs.declared.Family.the-variants.{ByElement, Vector, Saturating, LongLong, Long}
 use Rattle.words.specs.declared.Fields.{Fields}
 use Rattle.elements.specs.Size.{Size, Bits8, Bits16, Bits32, bitsOf, bytesOf, IsLane}
+use Rattle.elements.proofs.Lanes.{by-lane}
 use Rattle.recipes.specs.Recipe.{Choice, Recipe, sizeOf, doubled, each, eachSegment, halfOf, recipeOf, newLength, perSource}
 use Rattle.recipes.specs.Element.{chosen}
 
@@ -37,9 +38,7 @@ lane-sizes P a b c lane =
 
 -- the size of a lane has the lane's bits
 pub bits-of-lane : {lane : ℕ} → IsLane lane → bitsOf (sizeOf lane) ≡ lane
-bits-of-lane (inl e) = rw e
-bits-of-lane (inr (inl e)) = rw e
-bits-of-lane (inr (inr e)) = rw e
+bits-of-lane {lane} = by-lane (λ n. bitsOf (sizeOf n) ≡ n) refl refl refl lane
 
 -- element e of the vector lies in the register: it ends at byte w or before
 abbrev In : Size → Choice → ℕ → ℕ → Type 0

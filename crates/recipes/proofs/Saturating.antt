@@ -16,11 +16,6 @@ use Rattle.recipes.specs.Recipe.{recipeOf}
 use Rattle.recipes.specs.Element.{newElement, newBytes}
 use Rattle.recipes.specs.Saturating.{OfC, firstAt, secondAt, satElement, ElementThere, RegistersThere}
 
--- a lane of C that has not 16 bits
-pub last-lane : {lane : ℕ} → OfC lane → (lane ≡ 16 → ⊥) → lane ≡ 32
-last-lane (inl e) n = absurd (n e)
-last-lane (inr e) n = e
-
 -- ---- a written element has lane / 4 bytes: they are some, they fill the register, and those of each element are there
 
 pub some-bytes : {lane : ℕ} → OfC lane → 0 < lane / 4

@@ -8,6 +8,7 @@ use mathlib.Core.List.{List}
 use Rattle.elements.specs.Size.{Size, Bits8, Bits16, Bits32, Bits64, bitsOf, bytesOf, perHalf, IsLane}
 use Rattle.elements.specs.Elements.{element, elementOf}
 use Rattle.elements.proofs.Elements.{pow256}
+use Rattle.elements.proofs.Lanes.{by-lane}
 use Rattle.elements.proofs.Vectors.{vector-element}
 use Rattle.lanes.specs.Lane.{step}
 use Rattle.lanes.proofs.Laws.{step-lt}
@@ -36,9 +37,7 @@ count-in-bits Bits32 w = omega arith
 count-in-bits Bits64 w = omega arith
 
 pub bits-of-doubled : {lane : ℕ} → IsLane lane → bitsOf (doubled (sizeOf lane)) ≡ 2 * lane
-bits-of-doubled (inl e) = rw e
-bits-of-doubled (inr (inl e)) = rw e
-bits-of-doubled (inr (inr e)) = rw e
+bits-of-doubled {lane} = by-lane (λ n. bitsOf (doubled (sizeOf n)) ≡ 2 * n) refl refl refl lane
 
 pub bits-of-quadrupled : {lane : ℕ} → (lane ≡ 8) ⊎ (lane ≡ 16) → bitsOf (doubled (doubled (sizeOf lane))) ≡ 4 * lane
 bits-of-quadrupled (inl e) = rw e
@@ -46,13 +45,11 @@ bits-of-quadrupled (inr e) = rw e
 
 -- 64/lane elements of double width are 128 bits
 pub in-half : {lane : ℕ} → IsLane lane → 64 / lane ≡ 8 * 16 / (2 * lane)
-in-half (inl e) = rw e
-in-half (inr (inl e)) = rw e
-in-half (inr (inr e)) = rw e
+in-half {lane} = by-lane (λ n. 64 / n ≡ 8 * 16 / (2 * n)) refl refl refl lane
 
 -- ---- an element of the new vector
 
--- the widest number of a size
+-- 2 to a size's bits, by its bytes
 pub power : (s : Size) → 256 ^ bytesOf s ≡ 2 ^ bitsOf s
 power Bits8 = pow256 1
 power Bits16 = pow256 2

@@ -4,9 +4,9 @@ use mathlib.Core.Path.{_≡_, refl}
 use mathlib.Core.Logic.{inl, inr}
 use native.Mathlib.Omega.{arith}
 use borrow.Author.Needs.{needs}
+use Rattle.elements.proofs.Lanes.{wider-lane}
 use Rattle.lanes.proofs.Widths.{doubled}
 use Rattle.recipes.specs.Saturating.{satElement, ElementThere}
-use Rattle.recipes.proofs.Saturating.{last-lane}
 use Rattle.recipes.proofs.fresh.Statement.{statement}
 use Rattle.recipes.proofs.fresh.Tie as tie
 
@@ -18,7 +18,7 @@ there-16 : (c : tie.Then1) → There 16 (c .before .before)
 there-16 c = rw (c .if1 .taken) at (c .before .before .pre .1)
 
 lane-32 : (c : tie.Else1) → c .before .before .args .lane ≡ 32
-lane-32 c = last-lane (c .before .before .pre .0) (c .if1 .left)
+lane-32 c = wider-lane (c .before .before .pre .0) (c .if1 .left)
 
 there-32 : (c : tie.Else1) → There 32 (c .before .before)
 there-32 c = rw (lane-32 c) at (c .before .before .pre .1)

@@ -4,7 +4,7 @@ use mathlib.Core.Path.{_≡_}
 use native.Mathlib.Omega.{arith}
 use lib.ListN.{length}
 use borrow.Author.Needs.{needs}
-use Rattle.recipes.proofs.Saturating.{last-lane}
+use Rattle.elements.proofs.Lanes.{wider-lane}
 use Rattle.recipes.proofs.put.Statement.{statement}
 use Rattle.recipes.proofs.put.Tie as tie
 
@@ -12,7 +12,7 @@ room-16 : (c : tie.Then1) → c .before .before .args .e * 4 + 4 ≤ length (c .
 room-16 c = rw (c .if1 .taken) at (c .before .before .pre .1)
 
 lane-32 : (c : tie.Else1) → c .before .before .args .lane ≡ 32
-lane-32 c = last-lane (c .before .before .pre .0) (c .if1 .left)
+lane-32 c = wider-lane (c .before .before .pre .0) (c .if1 .left)
 
 room-32 : (c : tie.Else1) → c .before .before .args .e * 8 + 8 ≤ length (c .before .before .args .out .now)
 room-32 c = rw (lane-32 c) at (c .before .before .pre .1)
