@@ -2,7 +2,7 @@
 use Prim.Native.Nat.{ℕ, _+_, _-_, _*_, _/_, _%_, _≤_, _<_}
 use native.Mathlib.Nat.{zero-add, zero-mul, mul-comm, mul-assoc, mod-lt}
 use native.Mathlib.Omega.{arith}
-use mathlib.Core.Path.{_≡_, refl, sym, ap, _∙_, subst}
+use mathlib.Core.Path.{_≡_, refl, sym, ap, _∙_}
 use mathlib.Core.Logic.{_⊎_, inl, inr}
 use mathlib.Core.List.{List}
 use lib.ListN.{getD}
@@ -10,10 +10,11 @@ use Rattle.settings.specs.Lengths.{VectorLength}
 use Rattle.settings.specs.Valid.{vectorBytes, arrayBytes}
 use Rattle.settings.specs.declared.Settings.{Settings}
 use Rattle.settings.proofs.Lengths.{vector-length, array-length, same-length}
-use Rattle.words.specs.Ranges.{Ranges, OfFamily}
+use Rattle.words.specs.Ranges.{Ranges}
 use Rattle.words.specs.declared.Family.{Family}
 use Rattle.words.specs.declared.Family.the-variants.{ByElement, Vector, Saturating, LongLong, Long}
 use Rattle.words.specs.declared.Fields.{Fields}
+use Rattle.words.proofs.Ranges.{in-family}
 use Rattle.elements.specs.Size.{perHalf, IsLane}
 use Rattle.elements.specs.Elements.{elementOf}
 use Rattle.lanes.specs.Lane.{step}
@@ -24,8 +25,9 @@ use Rattle.recipes.proofs.Inside.{bits-of-lane}
 use Rattle.recipes.proofs.Sizes.{half-in-bits, bits-of-doubled, bits-of-quadrupled, in-half, InBits, newOf}
 use Rattle.machine.specs.Step.{register, zAfter, stride, selected, firstVector, zaAfter}
 use Rattle.machine.specs.Execute.{steppedBy, stepped}
+use Rattle.machine.specs.Loop.{IntoZa}
 use Rattle.machine.proofs.Grid.{rows-distinct, row-lt}
-use Rattle.machine.proofs.Array.{IntoZa, grid, first-multiple}
+use Rattle.machine.proofs.Array.{grid, first-multiple}
 use Rattle.demands.specs.Execution.{VL, Accepted, KeepsIfRefused, SameLengths, StillBytes, CountsToggled, AtMostWritten}
 use Rattle.demands.specs.Execution.{ElementsA, ElementsB, ElementsC, ElementsZa}
 use Rattle.demands.specs.Execution.{zaVector, Among, First, Distinct, Exact}
@@ -122,9 +124,8 @@ module _ (s : Settings) (w : ℕ) (f : Fields) (z za : List ℕ) (a : Accepted s
   pub elements-d : f .family ≡ LongLong → ElementsZa 4 s f z za (steppedBy LongLong s f z za)
   unfolding step
   elements-d q r i e hr hi h =
-      let o : OfFamily LongLong f = subst (λ (x : Family). OfFamily x f) q (g .of-family) in
       in-za LongLong q (inl q) r i (4 * f .lane) hr hi
-      (record { lane-bits = bits-of-lane (g .lane); wide-bits = bits-of-quadrupled (o .1) }) e (rw same-length h)
+      (record { lane-bits = bits-of-lane (g .lane); wide-bits = bits-of-quadrupled (in-family f g LongLong q .1) }) e (rw same-length h)
 
   pub elements-e : f .family ≡ Long → ElementsZa 2 s f z za (steppedBy Long s f z za)
   unfolding step

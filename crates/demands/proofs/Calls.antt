@@ -1,11 +1,10 @@
 -- Demand 3 for callers: the promises make the calls the run and the way back that the theorem speaks of. Assumes nothing.
 use Prim.Native.Nat.{ℕ}
-use native.Mathlib.Omega.{arith}
 use mathlib.Core.Path.{_≡_, refl, sym, ap, ap₂, _∙_, subst}
 use mathlib.Core.List.{List, [], _∷_, map, reverse, reverseAux, nil≢cons, cons≢nil, head-eq-of-cons-eq, tail-eq-of-cons-eq}
 use Rattle.settings.specs.Refused.{refusalNumber}
 use Rattle.settings.specs.declared.Settings.{Settings}
-use Rattle.settings.proofs.Refusals.{refusal-not-0}
+use Rattle.settings.proofs.Refusals.{not-0}
 use Rattle.words.specs.Partner.{partneredSays, partnerPaper}
 use Rattle.words.specs.declared.Partnered.{Partnered}
 use Rattle.words.specs.declared.Partnered.the-variants as partnered
@@ -24,7 +23,7 @@ followed-says : (s : Settings) (w : ℕ) (z za : List ℕ) (r : Executed) (z′ 
     → Followed s p z za r z′ za′ → executedSays r z′ za′ ≡ undoPaper s w z za
 followed-says s w z za r z′ za′ (partnered.Word v) e f = f ∙ undo-word s w z za v e
 followed-says s w z za r z′ za′ (partnered.Refused q) e (er, ez, eza) =
-    rw (er, ez, eza) (undo-refused s w z za (refusalNumber q) e (λ n. omega (arith, refusal-not-0 q)))
+    rw (er, ez, eza) (undo-refused s w z za (refusalNumber q) e (not-0 q))
 
 pub undo-says : (s : Settings) (w : ℕ) (z za : List ℕ) (r : Executed) (z′ za′ : List ℕ) → UndoCalls s w z za r z′ za′ → executedSays r z′ za′ ≡ undoPaper s w z za
 undo-says s w z za r z′ za′ u = followed-says s w z za r z′ za′ (u .asked) (u .promised) (u .followed)
@@ -76,16 +75,9 @@ said-back (Done c ∷ rs) before d = said-back rs (Done c ∷ before) d
 said-back (Refused r ∷ rs) before d = absurd d
 
 -- an answer is known by its report
-outcome-of : Report → Outcome
-outcome-of r = record { number = r .0; toggled = r .1; written = r .2; z = []; za = [] }
-
-said-outcome : (r : Executed) → executedSays r [] [] ≡ outcome-of (said r)
-unfolding said outcome-of
-said-outcome (Done c) = refl
-said-outcome (Refused r) = refl
-
 said-known : (r q : Executed) → said r ≡ said q → r ≡ q
-said-known r q e = executed-known r q [] [] [] [] (said-outcome r ∙ ap outcome-of e ∙ sym (said-outcome q))
+unfolding said
+said-known r q e = executed-known r q [] [] [] [] e
 
 all-known : (rs qs : List Executed) → map said rs ≡ map said qs → rs ≡ qs
 all-known [] [] e = refl

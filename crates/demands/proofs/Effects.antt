@@ -30,9 +30,9 @@ use Rattle.recipes.specs.Element.{newBytes}
 use Rattle.recipes.proofs.Built.{whole-elements, length-newBytes, Bytes-newBytes}
 use Rattle.recipes.proofs.Inside.{new-length}
 use Rattle.machine.specs.Step.{register, newRegister, zAfter, stride, firstVector, writesVector, newVector, zaAfter}
-use Rattle.machine.specs.Loop.{place, fresh}
+use Rattle.machine.specs.Loop.{place, fresh, IntoZa}
 use Rattle.machine.proofs.Grid.{row-of, within-row, row-lt, row-written, by-row, place-distinct}
-use Rattle.machine.proofs.Array.{IntoZa, grid, tested, passes, placed, array-is}
+use Rattle.machine.proofs.Array.{grid, tested, passes, placed, array-is}
 use Rattle.machine.proofs.Registers.{long-x, long-register, register-is}
 use Rattle.recipes.proofs.Sizes.{InBits, newOf, bytes-of-wide, counted-in-bits, element-in-bits}
 use Rattle.demands.specs.Execution.{zaVector, Among}

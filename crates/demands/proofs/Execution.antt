@@ -13,7 +13,7 @@ use Rattle.words.specs.declared.Fields.{Fields}
 use Rattle.bits.proofs.Bits.{toggled-same}
 use Rattle.recipes.specs.Recipe.{perSource}
 use Rattle.machine.specs.Execute.{Outcome, refusedWith, steppedBy, stepped}
-use Rattle.machine.proofs.Array.{IntoZa}
+use Rattle.machine.specs.Loop.{IntoZa}
 use Rattle.machine.proofs.Small.{counts-small}
 use Rattle.demands.specs.Execution.{VL, LengthIsVL, Accepted, AcceptedSteps, AcceptedExactly, AlwaysInOrder}
 use Rattle.demands.specs.Execution.{Always, KeepsIfRefused, SameLengths, StillBytes, CountsToggled, AtMostWritten, FewWritten}
@@ -102,14 +102,11 @@ vector-step = whenever Vector ElementsB elements-b
 pub saturating-step : Whenever Saturating ElementsC
 saturating-step = whenever Saturating ElementsC elements-c
 
-pub za-step : WheneverZa ElementsZa
-za-step = (whenever LongLong (ElementsZa 4) elements-d, whenever Long (ElementsZa 2) elements-e)
-
 pub long-long-step : Whenever LongLong (ElementsZa 4)
-long-long-step = za-step .0
+long-long-step = whenever LongLong (ElementsZa 4) elements-d
 
 pub long-step : Whenever Long (ElementsZa 2)
-long-step = za-step .1
+long-step = whenever Long (ElementsZa 2) elements-e
 
 -- ---- everything else stays
 

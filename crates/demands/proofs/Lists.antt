@@ -1,9 +1,9 @@
--- The statements of specs/Lists.antt, proved. Assumes nothing.
+-- The statements of specs/Lists.antt, proved, but for those on lists that are written (Written.antt). Assumes nothing.
 use Prim.Native.Nat.{ℕ, _+_, _≤_, _<_}
 use native.Mathlib.Omega.{arith}
 use native.Mathlib.Nat.{min-le-left}
 use native.Mathlib.Decide.{decLe}
-use mathlib.Core.Path.{_≡_, refl, sym, ap, _∙_, subst}
+use mathlib.Core.Path.{_≡_, refl, sym, ap, _∙_}
 use mathlib.Core.Logic.{_≢_}
 use mathlib.Core.List.{List, [], _∷_, _++_}
 use lib.ListN.{length, take, drop, length-append, length-take, length-drop, take-append-drop}
@@ -18,7 +18,7 @@ use Rattle.runlist.specs.Plan.{Found, found, refused, Asked, mostWords, endedAt
 use Rattle.runlist.specs.RunList.{carriedOut, runPaper}
 use Rattle.runlist.proofs.Plans.{not-refused, words-counted, z-read}
 use Rattle.demands.specs.Lists.{longest, AtMostLongest, OnlyWhole, FirstBytesDecide, EnoughBytes, RunOfEnough, LengthsHold, RefusedKeeps, PlaceInside, PlaceNear, RunSmall, OfList, RefusedWith}
-use Rattle.demands.proofs.Reading.{Worded, Made, made, Refusing, by-cause, far}
+use Rattle.demands.proofs.Reading.{Worded, Made, made, by-cause, far}
 
 -- ---- how long a list can be
 
@@ -98,7 +98,7 @@ refused-keeps list z za report = kept (planOf list (length z) (length za) (lengt
 abbrev Told : ℕ → Refusal → ℕ → Type 0
 Told size r p = (p ≤ size) × OfList r p
 
-told : (list : List ℕ) (z za room : ℕ) → Refusing (Told (length list)) (planOf list z za room)
+told : (list : List ℕ) (z za room : ℕ) (r : Refusal) (p : ℕ) → planOf list z za room ≡ refused r p → Told (length list) r p
 told list z za room =
     by-cause list z za room (Told (length list))
     (record {
@@ -112,7 +112,7 @@ told list z za room =
     })
 
 pub place-inside : PlaceInside
-place-inside list z za room r p e = subst (Refusing (Told (length list))) e (told list z za room) .0
+place-inside list z za room r p e = told list z za room r p e .0
 
 pub place-near : PlaceNear
 place-near list z za room r p e =
@@ -131,4 +131,4 @@ unfolding runPaper
 run-small list z za report = small list z za report (planOf list (length z) (length za) (length report)) refl
 
 pub refused-with : RefusedWith
-refused-with list z za room r p e = subst (Refusing (Told (length list))) e (told list z za room) .1
+refused-with list z za room r p e = told list z za room r p e .1

@@ -64,8 +64,8 @@ module _ (s : Settings) (w : ℕ) (z za : List ℕ) where
       record {
         by-settings = refused-1;
         by-lengths = λ v l. refused-2 v (lengths-wrong v l);
-        by-word = λ v p q n d h. (refused-3 v (lengths-right s z za p q) n d h, three n d h);
-        by-mode = λ v p q. refused-4 v (lengths-right s z za p q);
+        by-word = λ v p q n d h. (refused-3 v (lengths-right s _ _ p q) n d h, three n d h);
+        by-mode = λ v p q. refused-4 v (lengths-right s _ _ p q);
       }
     where
       three : (n : ℕ) → decodeEnabled (s .features .0) w .0 ≡ n → n ≢ 0 → n ≡ 3

@@ -3,13 +3,13 @@ use Prim.Native.Nat.{ℕ, _+_, _*_, _≤_, _<_}
 use native.Mathlib.Omega.{arith}
 use mathlib.Core.Path.{_≡_, refl, sym, ap, ap₂, _∙_, subst}
 use mathlib.Core.Logic.{_⊎_, ⊎-elim}
-use mathlib.Core.Bool.{Bool, true, false, _&&_, cond}
+use mathlib.Core.Bool.{Bool, true, false, cond}
 use mathlib.Core.List.{List, [], _∷_, _++_}
 use lib.Dec.{leb, eqb, ltb}
 use lib.ListN.{length, take, drop, length-append, length-drop}
 use lib.Seq.{take-append-le, drop-append-le}
 use borrow.Author.Tests.{leb-true, leb-false, le-leb, eqb-true, ne-eqb, ltb-true}
-use Rattle.laws.proofs.Tests.{both, by-cond, cond-holds, cond-then}
+use Rattle.laws.proofs.Tests.{all-three, by-cond, cond-holds, cond-then}
 use Rattle.settings.specs.Valid.{validSettings}
 use Rattle.settings.specs.declared.Refusal.{Refusal}
 use Rattle.settings.specs.declared.Refusal.the-variants.{BadSettings, BadLength, ListEnds, BadNumber, TooManyWords, ExtraBytes}
@@ -128,7 +128,7 @@ module _ (list : List ℕ) (z za room : ℕ) (a : Asked) where
 -- ---- what holds of a refused list
 
 -- Q of the refusal and its place
-abbrev pub Refusing : {A : Type 0} → (Refusal → ℕ → Type 0) → Found A → Type 0
+abbrev Refusing : {A : Type 0} → (Refusal → ℕ → Type 0) → Found A → Type 0
 Refusing Q (found a) = Unit {0}
 Refusing Q (refused r p) = Q r p
 
@@ -183,23 +183,19 @@ module _ (list : List ℕ) (z za room : ℕ) (Q : Refusal → ℕ → Type 0) (c
       (λ v. c .settings)
   by-row (fault vs r p) e = let f = row-fault list 0 7 vs r p (omega arith) e in of-number r p (f .0) (f .1)
 
-  -- what holds of each cause holds of the list
-  pub by-cause : Refusing Q (planOf list z za room)
+  -- what holds of each cause holds of the list's refusal
+  pub by-cause : (r : Refusal) (p : ℕ) → planOf list z za room ≡ refused r p → Q r p
   unfolding planOf
-  by-cause = by-row (numbersAt list 0 7) refl
+  by-cause r p e = subst (Refusing Q) e (by-row (numbersAt list 0 7) refl)
 
 -- ---- bytes far from the beginning
 
--- the first part of three that passed
-first-part : (x y z : Bool) → (x && y && z) ≡ true → x ≡ true
-first-part x y z e = both x y (both (x && y) z e .0) .0
-
 module _ (s : Settings) (v : validSettings s ≡ true) where
   features-few : s .features .0 < 32
-  features-few = ltb-true (s .features .0) 32 (first-part (ltb (s .features .0) 32) _ _ (valid-parts s v .1))
+  features-few = ltb-true (s .features .0) 32 (all-three (ltb (s .features .0) 32) _ _ (valid-parts s v .1) .0)
 
   modes-few : s .modes .0 < 4
-  modes-few = ltb-true (s .modes .0) 4 (first-part (ltb (s .modes .0) 4) _ _ (valid-parts s v .2))
+  modes-few = ltb-true (s .modes .0) 4 (all-three (ltb (s .modes .0) 4) _ _ (valid-parts s v .2) .0)
 
   length-few : s .vl ≤ 512
   length-few = omega (arith, vector-at-most s v, vector-bits s v)

@@ -5,9 +5,9 @@ use mathlib.Core.Bool.{Bool, false, cond}
 use mathlib.Core.Logic.{_≢_}
 use mathlib.Core.List.{List, [], _∷_, map, reverse, reverseAux}
 use lib.Dec.{eqb}
-use borrow.Author.Tests.{eqb-true, eqb-false, eq-eqb, ne-eqb}
+use borrow.Author.Tests.{eqb-true, eqb-false, eq-eqb}
 use Rattle.laws.specs.Lists.{Each}
-use Rattle.laws.proofs.Tests.{cond-holds}
+use Rattle.laws.proofs.Tests.{cond-ne, cond-holds}
 use Rattle.settings.specs.declared.Settings.{Settings}
 use Rattle.words.specs.Decode.{decodePaper}
 use Rattle.words.specs.Partner.{partnerWord, turned, isC, partnerPaper}
@@ -33,7 +33,7 @@ module _ (s : Settings) (w : ℕ) (z za : List ℕ) where
   pub undo-refused : (n : ℕ) → (n, 0) ≡ partnerPaper s w → n ≢ 0 → refusedWith n z za ≡ undoPaper s w z za
   unfolding undoPaper
   undo-refused n e h =
-      ap (λ (t : Bool). cond t (executePaper s 0 z za) (refusedWith n z za)) (sym (ne-eqb n 0 h))
+      cond-ne n 0 _ _ _ h refl
       ∙ ap (λ (p : ℕ × ℕ). cond (eqb (p .0) 0) (executePaper s (p .1) z za) (refusedWith (p .0) z za)) e
 
 -- ---- one word

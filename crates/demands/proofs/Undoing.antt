@@ -14,9 +14,10 @@ use Rattle.settings.specs.Valid.{vectorBytes, arrayBytes}
 use Rattle.settings.specs.declared.Settings.{Settings}
 use Rattle.settings.proofs.Lengths.{vector-length, array-length}
 use Rattle.words.specs.Partner.{turned, isC}
-use Rattle.words.specs.Ranges.{OfFamily, Ranges}
+use Rattle.words.specs.Ranges.{Ranges}
 use Rattle.words.specs.declared.Family.{Family}
 use Rattle.words.specs.declared.Fields.{Fields}
+use Rattle.words.proofs.Ranges.{in-family}
 use Rattle.elements.specs.Files.{vectorAt}
 use Rattle.elements.proofs.Elements.{Bytes}
 use Rattle.elements.proofs.Files.{room, length-vectorAt, Bytes-vectorAt, renewed-undone}
@@ -109,14 +110,14 @@ counted-back written z za z′ za′ =
 abbrev Single : Fields → Type 0
 Single f = (f .group ≡ 1) × (f .destination ≢ f .first) × (f .destination ≢ f .second)
 
-single : (f : Fields) → IntoZ f → OfFamily (f .family) f → isC (f .family) ≡ false → SourcesApart (f .family) f → Single f
-single f (inl e) o c p =
+single : (f : Fields) → IntoZ f → Ranges f → isC (f .family) ≡ false → SourcesApart (f .family) f → Single f
+single f (inl e) g c p =
     let q = subst (λ (x : Family). SourcesApart x f) e p in
-    (subst (λ (x : Family). OfFamily x f) e o, q .0, q .1)
-single f (inr (inl e)) o c p =
+    (in-family f g _ e, q .0, q .1)
+single f (inr (inl e)) g c p =
     let q = subst (λ (x : Family). SourcesApart x f) e p in
-    (subst (λ (x : Family). OfFamily x f) e o, q .0, q .1)
-single f (inr (inr e)) o c p = absurd (never-both (isC (f .family)) (ap isC e) c)
+    (in-family f g _ e, q .0, q .1)
+single f (inr (inr e)) g c p = absurd (never-both (isC (f .family)) (ap isC e) c)
 
 module _ (s : Settings) (w : ℕ) (f : Fields) (z za : List ℕ) (a : Accepted s w f z za) (bz : Bytes z) (bza : Bytes za) (c : isC (f .family) ≡ false) where
   wraps : (i : ℕ) → recipeOf (f .family) f i .saturating ≡ false
@@ -133,7 +134,7 @@ module _ (s : Settings) (w : ℕ) (f : Fields) (z za : List ℕ) (a : Accepted s
   unfolding turned
   into-z i p =
       let n : ℕ = 8 * newLength (f .family) (vectorBytes s) in
-      let q : Single f = single f i (g .of-family) c p in
+      let q : Single f = single f i g c p in
       let same : zAfter s (turned f) (zAfter s f z) ≡ z =
       z-back s (vector-length s (a .valid)) f g z (a .z-exact) bz (wraps 0)
       (omega (arith, g .first, q .0)) (omega (arith, g .second, q .0)) (q .1) (q .2) in

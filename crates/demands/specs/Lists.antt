@@ -1,4 +1,5 @@
--- What holds of every run list, in document 01's words. Statements only: proofs/Lists.antt proves each.
+-- What holds of every run list, in document 01's words. Statements only: proofs/Written.antt proves those on lists that are written, and
+-- proofs/Lists.antt the others.
 use Prim.Native.Nat.{ℕ, _+_, _*_, _^_, _≤_, _<_}
 use mathlib.Core.Path.{_≡_}
 use mathlib.Core.Logic.{_≢_}

@@ -1,6 +1,6 @@
 -- The lengths that the program lends. Assumes nothing.
 use Prim.Native.Nat.{ℕ, _+_, _-_, _*_, _/_, _≤_}
-use native.Mathlib.Nat.{le-trans, mul-le-mul-left, mul-le-mul-right}
+use native.Mathlib.Nat.{mul-le-mul}
 use native.Mathlib.Omega.{arith}
 use mathlib.Core.Path.{_≡_, sym, ap, ap₂, _∙_}
 use mathlib.Core.Bool.{true, false}
@@ -24,7 +24,7 @@ module _ (first : Read) (vl next : ℕ) (e : first ≡ Number vl next) where
 -- ---- the zeros that are lent
 
 pub square : (n : ℕ) → n ≤ 64 → n * n ≤ 4096
-square n h = le-trans (mul-le-mul-right n h) (mul-le-mul-left 64 h)
+square n h = mul-le-mul h h
 
 abbrev noughts : ℕ → List ℕ
 noughts n = replicate n 0

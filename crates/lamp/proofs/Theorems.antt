@@ -1,13 +1,12 @@
 -- The statements of specs/Theorems.antt, proved. Assumes nothing.
 use Prim.Native.Nat.{ℕ, _*_, _/_, _<_}
 use native.Mathlib.Omega.{arith}
-use mathlib.Core.Path.{_≡_, refl, sym, ap, ap₂, _∙_, subst}
+use mathlib.Core.Path.{_≡_, refl, sym, ap, ap₂, _∙_}
 use mathlib.Core.Logic.{_≢_}
 use mathlib.Core.Bool.{true}
 use mathlib.Core.List.{List}
 use lib.ListN.{length, getD, take, drop, replicate, take-append-drop}
 use lib.Seq.{take-all, length-take-le}
-use borrow.Author.Tests.{eq-eqb}
 use Rattle.laws.proofs.Tests.{never-both, by-lt}
 use Rattle.settings.specs.Valid.{validLength, validSettings, vectorBytes, arrayBytes}
 use Rattle.settings.specs.declared.Refusal.{Refusal}
@@ -18,9 +17,10 @@ use Rattle.numbers.specs.Numbers.{all, numberAt, numbersAt}
 use Rattle.numbers.proofs.Places.{number-far}
 use Rattle.numbers.proofs.Rows.{row-first}
 use Rattle.machine.specs.Execute.{rightLengths}
+use Rattle.machine.proofs.Executing.{lengths-right}
 use Rattle.runlist.specs.Plan.{mostWords, settingsOf}
 use Rattle.demands.specs.Lists.{longest}
-use Rattle.demands.proofs.Reading.{Refusing, Causes, by-cause}
+use Rattle.demands.proofs.Reading.{Causes, by-cause}
 use Rattle.demands.proofs.Lists.{enough-bytes, run-of-enough}
 use Rattle.lamp.specs.Lamp.{wordsOf, textOf, linesOf, registerOf, registerBytes, printed}
 use Rattle.lamp.specs.Theorems.{EnoughRead, NeverBadLength}
@@ -57,7 +57,7 @@ lent-right list head p e v =
     let vl : ℕ = getD head 0 0 in
     let l : validLength vl ≡ true = valid-parts (settingsOf head) v .0 in
     let w : registerOf (numberAt list 0) ≡ vl / 8 = ap registerOf (row-first list 0 6 head p e .1) ∙ rw l in
-    rw (w, eq-eqb (32 * (vl / 8)) (32 * (vl / 8)) refl, eq-eqb (vl / 8 * (vl / 8)) (vl / 8 * (vl / 8)) refl)
+    lengths-right (settingsOf head) _ _ (ap (λ (n : ℕ). 32 * n) w) (ap (λ (n : ℕ). n * n) w)
 
 another : (r : Refusal) → refusalNumber r ≢ 2 → r ≢ BadLength
 another r h e = h (ap refusalNumber e)
@@ -76,4 +76,4 @@ others list =
     }
 
 pub never-bad-length : NeverBadLength
-never-bad-length list p e = subst (Refusing (λ r p. r ≢ BadLength)) e (by-cause list _ _ _ (λ r p. r ≢ BadLength) (others list)) refl
+never-bad-length list p e = by-cause list _ _ _ (λ r p. r ≢ BadLength) (others list) BadLength p e refl

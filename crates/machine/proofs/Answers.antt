@@ -5,18 +5,19 @@ use mathlib.Core.List.{List}
 use Rattle.settings.specs.declared.Settings.{Settings}
 use Rattle.settings.proofs.Refusals.{refusal-known, not-0}
 use Rattle.machine.specs.Execute.{Outcome, executedSays, executePaper}
+use Rattle.machine.specs.Run.{Report, reportOf}
 use Rattle.machine.specs.declared.Counts.{Counts}
 use Rattle.machine.specs.declared.Executed.{Executed}
 use Rattle.machine.specs.declared.Executed.the-variants.{Done, Refused}
 
-number : Outcome → ℕ
-number o = o .number
+number : Report → ℕ
+number r = r .0
 
--- an answer is known by its number and its counts
-pub executed-known : (r q : Executed) (z za z′ za′ : List ℕ) → executedSays r z za ≡ executedSays q z′ za′ → r ≡ q
+-- an answer is known by its report
+pub executed-known : (r q : Executed) (z za z′ za′ : List ℕ) → reportOf (executedSays r z za) ≡ reportOf (executedSays q z′ za′) → r ≡ q
 unfolding number
 executed-known (Done c) (Done d) z za z′ za′ e =
-    ap Done (ap₂ {A = ℕ} {B = ℕ} {C = Counts} (λ t n. record { toggled = t; written = n }) (ap (λ (o : Outcome). o .toggled) e) (ap (λ (o : Outcome). o .written) e))
+    ap Done (ap₂ {A = ℕ} {B = ℕ} {C = Counts} (λ t n. record { toggled = t; written = n }) (ap (λ (r : Report). r .1) e) (ap (λ (r : Report). r .2) e))
 executed-known (Done c) (Refused q) z za z′ za′ e = absurd (not-0 q (sym (ap number e)))
 executed-known (Refused r) (Done d) z za z′ za′ e = absurd (not-0 r (ap number e))
 executed-known (Refused r) (Refused q) z za z′ za′ e = ap Refused (refusal-known r q (ap number e))
@@ -36,7 +37,7 @@ pub execute-unique : (s : Settings) (w : ℕ) (z za : List ℕ) (r q : Executed)
     → (r ≡ q) × (z1 ≡ z2) × (za1 ≡ za2)
 execute-unique s w z za r q z1 za1 z2 za2 e g =
     let same : executedSays r z1 za1 ≡ executedSays q z2 za2 = e ∙ sym g in (
-      executed-known r q z1 za1 z2 za2 same,
+      executed-known r q z1 za1 z2 za2 (ap reportOf same),
       sym (says-z r z1 za1) ∙ ap (λ (o : Outcome). o .z) same ∙ says-z q z2 za2,
       sym (says-za r z1 za1) ∙ ap (λ (o : Outcome). o .za) same ∙ says-za q z2 za2,
     )

@@ -2,7 +2,7 @@
 use Prim.Native.Nat.{ℕ, _+_, _-_, _*_, _/_, _%_, _≤_, _<_}
 use native.Mathlib.Nat.{mod-lt}
 use native.Mathlib.Omega.{arith}
-use mathlib.Core.Path.{_≡_, refl, ap, _∙_, subst}
+use mathlib.Core.Path.{_≡_, refl, ap, _∙_}
 use mathlib.Core.Logic.{_⊎_, inl, inr}
 use mathlib.Core.Bool.{true}
 use mathlib.Core.List.{List}
@@ -14,23 +14,22 @@ use Rattle.settings.specs.Lengths.{VectorLength}
 use Rattle.settings.specs.Valid.{arrayBytes}
 use Rattle.settings.specs.declared.Settings.{Settings}
 use Rattle.settings.proofs.Lengths.{same-length}
-use Rattle.words.specs.Ranges.{Ranges, OfFamily}
-use Rattle.words.specs.declared.Family.{Family}
+use Rattle.words.specs.Ranges.{Ranges}
 use Rattle.words.specs.declared.Family.the-variants.{LongLong, Long}
 use Rattle.words.specs.declared.Fields.{Fields}
+use Rattle.words.proofs.Ranges.{in-family}
 use Rattle.recipes.specs.Recipe.{perSource}
 use Rattle.recipes.proofs.Built.{length-newBytes}
 use Rattle.elements.specs.Files.{vectorAt, replaced}
 use Rattle.elements.proofs.Files.{Placed, Names, renewed-cong, replaced-renewed}
 use Rattle.machine.specs.Step.{stride, selected, firstVector, writesVector, newVector, zaAfter}
-pub use Rattle.machine.specs.Loop.{IntoZa}
-use Rattle.machine.specs.Loop.{place, fresh}
-use Rattle.machine.proofs.Grid.{Grid, Written, which, place-lt, place-distinct, place-which, place-written, which-lt, which-row}
+use Rattle.machine.specs.Loop.{Grid, place, fresh, IntoZa}
+use Rattle.machine.proofs.Grid.{Written, which, place-lt, place-distinct, place-which, place-written, which-lt, which-row}
 
 -- the group, as a word has it
 pub group-numbers : (f : Fields) → Ranges f → IntoZa f → (f .group ≡ 2) ⊎ (f .group ≡ 4)
-group-numbers f g (inl e) = let o : OfFamily LongLong f = subst (λ (x : Family). OfFamily x f) e (g .of-family) in o .0
-group-numbers f g (inr e) = let o : OfFamily Long f = subst (λ (x : Family). OfFamily x f) e (g .of-family) in o .0
+group-numbers f g (inl e) = in-family f g LongLong e .0
+group-numbers f g (inr e) = in-family f g Long e .0
 
 -- k, by its number
 pub two-or-four-vectors : (f : Fields) → IntoZa f → (k : ℕ) → k ≡ perSource (f .family) → (k ≡ 2) ⊎ (k ≡ 4)

@@ -24,6 +24,15 @@ pub word-ranges : (s : Settings) (w : ℕ) (f : Fields) → validSettings s ≡ 
 unfolding decodePaper
 word-ranges s w f v e = in-range w f (decodes-exactly s w f .0 (rw v e) .says)
 
+-- the test of the lengths passes where both are exact, and only there
+pub lengths-right : (s : Settings) (z za : ℕ) → z ≡ 32 * vectorBytes s → za ≡ arrayBytes s * arrayBytes s → rightLengths s z za ≡ true
+lengths-right s z za p q = ap₂ _&&_ (eq-eqb z (32 * vectorBytes s) p) (eq-eqb za (arrayBytes s * arrayBytes s) q)
+
+pub lengths-exact : (s : Settings) (z za : ℕ) → rightLengths s z za ≡ true → (z ≡ 32 * vectorBytes s) × (za ≡ arrayBytes s * arrayBytes s)
+lengths-exact s z za e =
+    let b = both (eqb z (32 * vectorBytes s)) (eqb za (arrayBytes s * arrayBytes s)) e in
+    (eqb-true z (32 * vectorBytes s) (b .0), eqb-true za (arrayBytes s * arrayBytes s) (b .1))
+
 module _ (s : Settings) (z za : List ℕ) where
   -- 1
   pub not-valid : (w : ℕ) → validSettings s ≡ false → refusedWith 1 z za ≡ executePaper s w z za
@@ -35,27 +44,19 @@ module _ (s : Settings) (z za : List ℕ) where
   unfolding executePaper
   not-long w v e = rw (v, e)
 
-  -- the test passes where both lengths are exact
-  pub lengths-right : length z ≡ 32 * vectorBytes s → length za ≡ arrayBytes s * arrayBytes s → rightLengths s (length z) (length za) ≡ true
-  lengths-right p q = ap₂ _&&_ (eq-eqb (length z) (32 * vectorBytes s) p) (eq-eqb (length za) (arrayBytes s * arrayBytes s) q)
-
   pub is-ready : validSettings s ≡ true → rightLengths s (length z) (length za) ≡ true → Ready s z za
   is-ready v e =
-      let b = both (eqb (length z) (32 * vectorBytes s)) (eqb (length za) (arrayBytes s * arrayBytes s)) e in
-      record {
-        valid = v;
-        z-long = eqb-true (length z) (32 * vectorBytes s) (b .0);
-        za-long = eqb-true (length za) (arrayBytes s * arrayBytes s) (b .1);
-      }
+      let exact = lengths-exact s (length z) (length za) e in
+      record { valid = v; z-long = exact .0; za-long = exact .1 }
 
   -- 3
   pub not-decoded : (w n : ℕ) → Ready s z za → decodeEnabled (s .features .0) w .0 ≡ n → n ≢ 0 → refusedWith n z za ≡ executePaper s w z za
   unfolding executePaper
-  not-decoded w n r e h = rw (r .valid, lengths-right (r .z-long) (r .za-long), e, ne-eqb n 0 h)
+  not-decoded w n r e h = rw (r .valid, lengths-right s _ _ (r .z-long) (r .za-long), e, ne-eqb n 0 h)
 
   pub is-decoded : (w : ℕ) (f : Fields) → Ready s z za → decodeEnabled (s .features .0) w ≡ (0, f) → executeFields s f z za ≡ executePaper s w z za
   unfolding executePaper
-  is-decoded w f r e = rw (r .valid, lengths-right (r .z-long) (r .za-long), e)
+  is-decoded w f r e = rw (r .valid, lengths-right s _ _ (r .z-long) (r .za-long), e)
 
   -- 4
   pub not-permitted : (f : Fields) → permits (s .features .0) (s .modes .0) (f .family) ≡ false → refusedWith 4 z za ≡ executeFields s f z za

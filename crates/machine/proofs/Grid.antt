@@ -4,8 +4,7 @@ use native.Mathlib.Nat.{mod-lt, div-add-mod', div-lt-iff-lt-mul}
 use native.Mathlib.Omega.{arith}
 use mathlib.Core.Path.{_≡_, sym, ap, ap₂, _∙_}
 use lib.Arith.{digits-div, digits-mod, digits-lt}
-pub use Rattle.machine.specs.Loop.{Grid}
-use Rattle.machine.specs.Loop.{place}
+use Rattle.machine.specs.Loop.{Grid, place}
 
 module _ {w group stride k first : ℕ} (g : Grid w group stride k first) where
   -- r and i of vector first + r·stride + i

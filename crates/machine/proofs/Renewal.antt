@@ -1,6 +1,6 @@
 -- A vector that becomes new in its place; C's is built aside. Assumes nothing.
 use Prim.Native.Nat.{ℕ, _+_, _*_, _%_, _≤_, _<_}
-use native.Mathlib.Nat.{mul-le-mul-right}
+use native.Mathlib.Nat.{mul-le-mul}
 use native.Mathlib.Omega.{arith}
 use mathlib.Core.Path.{_≡_, refl, sym, ap, _∙_, subst}
 use mathlib.Core.Logic.{_≢_, _⊎_, inl, inr}
@@ -12,6 +12,7 @@ use Rattle.words.specs.Ranges.{Ranges, OfFamily}
 use Rattle.words.specs.declared.Family.{Family}
 use Rattle.words.specs.declared.Family.the-variants.{ByElement, Vector, Saturating, LongLong, Long}
 use Rattle.words.specs.declared.Fields.{Fields}
+use Rattle.words.proofs.Ranges.{in-family}
 use Rattle.elements.specs.Files.{vectorAt}
 use Rattle.elements.proofs.Vectors.{within}
 use Rattle.elements.proofs.Files.{next, room}
@@ -21,14 +22,11 @@ use Rattle.recipes.specs.Element.{newBytes}
 use Rattle.recipes.specs.Saturating.{OfC, RegistersThere}
 use Rattle.recipes.proofs.Inside.{Inside, inside}
 use Rattle.recipes.proofs.Built.{newBytes-within}
-use Rattle.machine.specs.Loop.{made, IntoV, IntoZa, Sources, Places}
+use Rattle.machine.specs.Loop.{made, RegisterRenewed, IntoV, IntoZa, Sources, Places}
 
 -- ZA has 65,536 bytes at most
-pub array-small : {w : ℕ} → VectorLength w → w * w ≤ 65536
-array-small {w} v = omega (arith, mul-le-mul-right w (v .most), v .most)
-
-pub array-small-by : {w : ℕ} → VectorLength w → (x : ℕ) → x ≡ w → x * x ≤ 65536
-array-small-by v x e = rw e (array-small v)
+array-small : {w : ℕ} → VectorLength w → w * w ≤ 65536
+array-small v = mul-le-mul (v .most) (v .most)
 
 -- one of the 32 registers ends by byte 8,192; one of the vectors of ZA by byte 65,536
 pub register-small : {w : ℕ} → VectorLength w → (x : ℕ) → x < 32 → x * w + w ≤ 8192
@@ -89,7 +87,7 @@ module _ {f : Fields} {w : ℕ} {z : List ℕ} (p : Sources f w z) where
     whole-register = ap (λ (x : Family). newLength x w) c
 
     of-c : OfC (f .lane)
-    of-c = let o : OfFamily Saturating f = subst (λ (x : Family). OfFamily x f) c (p .ranges .of-family) in o .1
+    of-c = in-family f (p .ranges) Saturating c .1
 
     -- the registers that it takes are there
     pub step-places : ((f .family ≡ Saturating) × OfC (f .lane)) × RegistersThere (f .lane) (f .part) (f .index) bytes z (f .destination * w) (f .first * w) (f .second * w)
@@ -119,7 +117,7 @@ module _ {f : Fields} {w : ℕ} {z : List ℕ} (p : Sources f w z) where
       pub step-renewal : (z′ : List ℕ) (t : ℕ)
           → out ≡ newBytes (recipeOf (f .family) f 0) bytes (drop (f .destination * w) z) (drop (f .first * w) z) (drop (f .second * w) z)
           → Replaced (f .destination * w) t out z z′
-          → Replaced (f .destination * w) t (made f 0 (newLength (f .family) w) w (f .destination) z (f .first) (f .second) z) z z′
+          → RegisterRenewed f w t z z′
       step-renewal z′ t e =
           renewal 0 first-source (newLength (f .family) w) refl (f .destination) (f .first) (f .second) z out z′ t
           (e ∙ ap (λ (n : ℕ). newBytes (recipeOf (f .family) f 0) n (drop (f .destination * w) z) (drop (f .first * w) z) (drop (f .second * w) z)) (eb ∙ sym whole-register))

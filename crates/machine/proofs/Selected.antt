@@ -2,16 +2,16 @@
 use Prim.Native.Nat.{ℕ, _+_, _-_, _*_, _/_, _%_, _≤_, _<_}
 use native.Mathlib.Nat.{mod-le}
 use native.Mathlib.Omega.{arith}
-use mathlib.Core.Path.{_≡_, _∙_, subst}
+use mathlib.Core.Path.{_≡_, _∙_}
 use mathlib.Core.Logic.{_⊎_, inl, inr}
 use mathlib.Core.List.{List}
 use lib.ListN.{getD}
 use Rattle.settings.specs.Valid.{arrayBytes}
 use Rattle.settings.specs.declared.Settings.{Settings}
-use Rattle.words.specs.Ranges.{Ranges, OfFamily}
-use Rattle.words.specs.declared.Family.{Family}
+use Rattle.words.specs.Ranges.{Ranges}
 use Rattle.words.specs.declared.Family.the-variants.{LongLong, Long}
 use Rattle.words.specs.declared.Fields.{Fields}
+use Rattle.words.proofs.Ranges.{in-family}
 use Rattle.elements.specs.Files.{replaced}
 use Rattle.recipes.specs.Recipe.{perSource}
 use Rattle.machine.specs.Step.{stride, selected, firstVector, zaAfter}
@@ -20,8 +20,8 @@ use Rattle.machine.proofs.Array.{group-numbers, two-or-four-vectors, gr
 
 -- W8 to W11
 pub select-range : (f : Fields) → Ranges f → IntoZa f → (8 ≤ f .select) × (f .select < 12)
-select-range f g (inl e) = let o : OfFamily LongLong f = subst (λ (x : Family). OfFamily x f) e (g .of-family) in (o .2, o .3)
-select-range f g (inr e) = let o : OfFamily Long f = subst (λ (x : Family). OfFamily x f) e (g .of-family) in (o .2, o .3)
+select-range f g (inl e) = let o = in-family f g LongLong e in (o .2, o .3)
+select-range f g (inr e) = let o = in-family f g Long e in (o .2, o .3)
 
 module _ (s : Settings) {f : Fields} {z za : List ℕ} (p : Places f (arrayBytes s) z za) where
   pub group-is : (f .group ≡ 2) ⊎ (f .group ≡ 4)

@@ -1,18 +1,17 @@
 -- The counts of every outcome are small, so that those of many words can be summed. Assumes nothing.
-use Prim.Native.Nat.{ℕ, _+_, _≤_}
-use native.Mathlib.Nat.{mul-le-mul-right}
+use Prim.Native.Nat.{ℕ, _+_, _*_, _≤_}
 use native.Mathlib.Omega.{arith}
-use mathlib.Core.Path.{_≡_, ap}
-use mathlib.Core.Logic.{⊎-elim}
+use mathlib.Core.Path.{_≡_, refl, ap}
+use mathlib.Core.Logic.{_⊎_, inl, inr}
 use mathlib.Core.List.{List}
 use lib.Bits.{differ}
 use lib.Dec.{lit≤, eqb}
 use lib.ListN.{length}
 use borrow.Author.Tests.{eqb-true}
 use Rattle.laws.proofs.Tests.{cond-holds}
-use Rattle.settings.specs.Valid.{validSettings, vectorBytes, arrayBytes}
+use Rattle.settings.specs.Valid.{validSettings, vectorBytes}
 use Rattle.settings.specs.declared.Settings.{Settings}
-use Rattle.settings.proofs.Lengths.{vector-at-most, same-length}
+use Rattle.settings.proofs.Lengths.{vector-at-most, array-at-most}
 use Rattle.words.specs.Decode.{decodeEnabled}
 use Rattle.words.specs.Ranges.{Ranges, OfFamily}
 use Rattle.words.specs.declared.Family.{Family}
@@ -36,35 +35,30 @@ module _ (s : Settings) (f : Fields) (z za : List ℕ) (p : Ready s z za) where
   register : vectorBytes s ≤ 64
   register = vector-at-most s (p .valid)
 
-  vector : arrayBytes s ≤ 64
-  vector = rw same-length register
-
   -- whatever the bytes become
   toggled-small : (z′ za′ : List ℕ) → toggled z z′ + toggled za za′ ≤ 49152
   toggled-small z′ za′ =
       omega (
         arith,
         register,
-        vector,
-        mul-le-mul-right (arrayBytes s) vector,
+        array-at-most s (p .valid) _ refl,
         p .z-long,
         p .za-long,
         bytes-le differ differ-once z z′,
         bytes-le differ differ-once za za′,
       )
 
+  -- a source of D or E has 2,048 bits at most
+  in-groups : (f .group ≡ 2) ⊎ (f .group ≡ 4) → 8 * vectorBytes s * f .group ≤ 2048
+  in-groups (inl e) = rw e (omega (arith, register))
+  in-groups (inr e) = rw e (omega (arith, register))
+
   by-family : (family : Family) → OfFamily family f → Small (steppedBy family s f z za)
   by-family ByElement o = (toggled-small _ _, lit≤ tt)
   by-family Vector o = (toggled-small _ _, lit≤ tt)
   by-family Saturating o = (toggled-small _ _, omega (arith, register))
-  by-family LongLong o = (
-    toggled-small _ _,
-    ⊎-elim (λ (e : f .group ≡ 2). rw e (omega (arith, register))) (λ (e : f .group ≡ 4). rw e (omega (arith, register))) (o .0),
-  )
-  by-family Long o = (
-    toggled-small _ _,
-    ⊎-elim (λ (e : f .group ≡ 2). rw e (omega (arith, register))) (λ (e : f .group ≡ 4). rw e (omega (arith, register))) (o .0),
-  )
+  by-family LongLong o = (toggled-small _ _, omega (arith, in-groups (o .0)))
+  by-family Long o = (toggled-small _ _, omega (arith, in-groups (o .0)))
 
   step-small : Ranges f → Small (stepped s f z za)
   unfolding stepped

@@ -1,6 +1,6 @@
 -- From the vectors that are written to the files after the step. Assumes nothing.
 use Prim.Native.Nat.{ℕ, _+_, _*_, _≤_}
-use native.Mathlib.Nat.{add-zero, zero-add, mul-le-mul-right}
+use native.Mathlib.Nat.{add-zero, zero-add}
 use native.Mathlib.Omega.{arith}
 use mathlib.Core.Path.{_≡_, refl, sym, ap, _∙_, subst}
 use mathlib.Core.Logic.{_⊎_, inl, inr}
@@ -13,12 +13,11 @@ use Rattle.words.specs.declared.Family.{Family}
 use Rattle.words.specs.declared.Family.the-variants.{ByElement, Vector, Saturating, LongLong, Long}
 use Rattle.words.specs.declared.Fields.{Fields}
 use Rattle.bits.specs.Bits.{toggled}
-use Rattle.bits.specs.Replace.{Replaced}
 use Rattle.bits.proofs.Bits.{toggled-same}
 use Rattle.recipes.specs.Recipe.{newLength, perSource}
 use Rattle.machine.specs.Step.{zAfter, zaAfter}
 use Rattle.machine.specs.Execute.{Outcome, counted, writtenBits, steppedBy, stepped, Stepped}
-use Rattle.machine.specs.Loop.{made, IntoZa, Sources, Places, Ready}
+use Rattle.machine.specs.Loop.{RegisterRenewed, IntoZa, Sources, Places, Ready}
 use Rattle.machine.proofs.Registers.{register-is}
 
 -- A, B and C
@@ -78,11 +77,10 @@ module _ (s : Settings) (f : Fields) (z za : List ℕ) (p : Ready s z za) (g : R
       }
 
   pub z-done : IntoZ f → (t : ℕ) (z′ : List ℕ)
-      → Replaced (f .destination * w) t (made f 0 (newLength (f .family) w) w (f .destination) z (f .first) (f .second) z) z z′
+      → RegisterRenewed f w t z z′
       → Stepped s f t z za z′ za
   z-done i t z′ r =
-      let r′ =
-      subst (λ (x : ℕ). Replaced (f .destination * x) t (made f 0 (newLength (f .family) x) x (f .destination) z (f .first) (f .second) z) z z′) ew r in
+      let r′ = subst (λ (x : ℕ). RegisterRenewed f x t z z′) ew r in
       let q = stepped-z s f z za i in
       let e : z′ ≡ zAfter s f z = r′ .after ∙ register-is s (vector-length s (p .valid)) f g z (p .z-long) in
       record {
@@ -99,11 +97,6 @@ module _ (s : Settings) (f : Fields) (z za : List ℕ) (p : Ready s z za) (g : R
         za-after = e ∙ sym (ap (λ (o : Outcome). o .za) q);
         bits = b ∙ ap (toggled za) e ∙ sym (ap (λ (o : Outcome). o .toggled) q ∙ ap (λ (n : ℕ). n + toggled za (zaAfter s f z za)) (toggled-same z) ∙ zero-add (toggled za (zaAfter s f z za)));
       }
-
--- ---- the written bits
-
-pub product-small : (vl group : ℕ) → vl ≤ 2048 → group ≤ 32 → vl * group ≤ 65536
-product-small vl group h k = omega (arith, mul-le-mul-right group h)
 
 -- ---- the outcome, from the files and the counts
 

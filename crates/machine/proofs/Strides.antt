@@ -11,10 +11,11 @@ use Rattle.elements.proofs.Elements.{elementAt-drop}
 use Rattle.elements.proofs.Lanes.{by-lane}
 use Rattle.elements.proofs.Vectors.{vector-cong}
 use Rattle.elements.proofs.Files.{next, room}
-use Rattle.words.specs.Ranges.{Ranges, OfFamily}
+use Rattle.words.specs.Ranges.{Ranges}
 use Rattle.words.specs.declared.Family.{Family}
 use Rattle.words.specs.declared.Family.the-variants.{ByElement, Vector, LongLong, Long}
 use Rattle.words.specs.declared.Fields.{Fields}
+use Rattle.words.proofs.Ranges.{in-family}
 use Rattle.lanes.specs.Lane.{step}
 use Rattle.bits.specs.Replace.{Replaced}
 use Rattle.chunks.specs.Chunk.{strideStep, strideBytes, Reach, OfArray}
@@ -22,7 +23,7 @@ use Rattle.recipes.specs.Recipe.{Recipe, sizeOf, each, halfOf, recipeOf, newLen
 use Rattle.recipes.specs.Element.{chosen, newElement, newBytes}
 use Rattle.recipes.proofs.Inside.{bits-of-lane}
 use Rattle.recipes.proofs.Sizes.{bits-of-doubled, bits-of-quadrupled, InBits, bytes-of-wide, bytes-of-lane}
-use Rattle.machine.specs.Loop.{made, IntoV, IntoZa, Sources, Places}
+use Rattle.machine.specs.Loop.{made, RegisterRenewed, IntoV, IntoZa, Sources, Places}
 use Rattle.machine.proofs.Renewal.{source-lt, first-source, register-there, renewal, v-length, whole-vector}
 
 -- lane, wide, the sign and the operation are the recipe's, and each lane that it takes is where the steps come to
@@ -110,7 +111,7 @@ module _ {f : Fields} {w : ℕ} {z : List ℕ} (p : Sources f w z) where
   v-renewal : IntoV f → (y dy : ℕ) → Even (recipeOf (f .family) f 0) (f .lane) (2 * f .lane) (f .unsigned) (f .subtract) (f .first * w) X (f .lane / 8) (f .second * w) y dy
       → (z′ : List ℕ) (t : ℕ)
       → Replaced At t (strideBytes (f .lane) (2 * f .lane) (f .unsigned) (f .subtract) z At z X (f .lane / 8) y dy 16) z z′
-      → Replaced At t (made f 0 (newLength (f .family) w) w (f .destination) z (f .first) (f .second) z) z z′
+      → RegisterRenewed f w t z z′
   v-renewal i y dy v z′ t =
       renewal p 0 (first-source p) (newLength (f .family) w) refl (f .destination) (f .first) (f .second) z _ z′ t
       (even-bytes v z At z 16
@@ -118,7 +119,7 @@ module _ {f : Fields} {w : ℕ} {z : List ℕ} (p : Sources f w z) where
 
   pub by-element : f .family ≡ ByElement → (z′ : List ℕ) (t : ℕ)
       → Replaced At t (strideBytes (f .lane) (2 * f .lane) (f .unsigned) (f .subtract) z At z X (f .lane / 8) (f .second * w + f .index * (f .lane / 8)) (0 * (f .lane / 8)) 16) z z′
-      → Replaced At t (made f 0 (newLength (f .family) w) w (f .destination) z (f .first) (f .second) z) z z′
+      → RegisterRenewed f w t z z′
   by-element e =
       v-renewal (inl e) _ _
       (subst (λ (x : Family). Even (recipeOf x f 0) (f .lane) (2 * f .lane) (f .unsigned) (f .subtract) (f .first * w) X (f .lane / 8) (f .second * w) (f .second * w + f .index * (f .lane / 8)) (0 * (f .lane / 8))) (sym e)
@@ -133,7 +134,7 @@ module _ {f : Fields} {w : ℕ} {z : List ℕ} (p : Sources f w z) where
 
   pub by-pairs : f .family ≡ Vector → (z′ : List ℕ) (t : ℕ)
       → Replaced At t (strideBytes (f .lane) (2 * f .lane) (f .unsigned) (f .subtract) z At z X (f .lane / 8) (f .second * w + f .part * 8) (1 * (f .lane / 8)) 16) z z′
-      → Replaced At t (made f 0 (newLength (f .family) w) w (f .destination) z (f .first) (f .second) z) z z′
+      → RegisterRenewed f w t z z′
   by-pairs e =
       v-renewal (inr e) _ _
       (subst (λ (x : Family). Even (recipeOf x f 0) (f .lane) (2 * f .lane) (f .unsigned) (f .subtract) (f .first * w) X (f .lane / 8) (f .second * w) (f .second * w + f .part * 8) (1 * (f .lane / 8))) (sym e)
@@ -198,12 +199,11 @@ module _ (f : Fields) (g : Ranges f) (i n m : ℕ) where
   -- of the k that the code was told
   even-array : IntoZa f → (k : ℕ) → k ≡ perSource (f .family) → LanesOf k (f .lane) × EvenArray (f .family) k
   even-array (inl e) k ek =
-      let o : OfFamily LongLong f = subst (λ (x : Family). OfFamily x f) e (g .of-family) in
+      let o = in-family f g LongLong e in
       let h : LanesOf 4 (f .lane) = ⊎-elim (λ (q : f .lane ≡ 8). inl (refl, q)) (λ (q : f .lane ≡ 16). inr (inl (refl, q))) (o .1) in
       subst (λ (c : ℕ). LanesOf c (f .lane) × EvenArray (f .family) c) (sym (ek ∙ ap perSource e)) (h, subst (λ (x : Family). EvenArray x 4) (sym e) (even-d h (o .1)))
   even-array (inr e) k ek =
-      let o : OfFamily Long f = subst (λ (x : Family). OfFamily x f) e (g .of-family) in
-      let h : LanesOf 2 (f .lane) = inr (inr (refl, o .1)) in
+      let h : LanesOf 2 (f .lane) = inr (inr (refl, in-family f g Long e .1)) in
       subst (λ (c : ℕ). LanesOf c (f .lane) × EvenArray (f .family) c) (sym (ek ∙ ap perSource e)) (h, subst (λ (x : Family). EvenArray x 2) (sym e) (even-e h))
 
 module _ {f : Fields} {w : ℕ} {z za : List ℕ} (p : Places f w z za) (k : ℕ) (ek : k ≡ perSource (f .family)) where

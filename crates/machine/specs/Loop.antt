@@ -12,7 +12,8 @@ use Rattle.words.specs.Ranges.{Ranges}
 use Rattle.words.specs.declared.Family.the-variants.{ByElement, Vector, LongLong, Long}
 use Rattle.words.specs.declared.Fields.{Fields}
 use Rattle.elements.specs.Files.{vectorAt}
-use Rattle.recipes.specs.Recipe.{recipeOf}
+use Rattle.bits.specs.Replace.{Replaced}
+use Rattle.recipes.specs.Recipe.{recipeOf, newLength}
 use Rattle.recipes.specs.Element.{newBytes}
 
 -- w vectors are `group` rows of `stride`; in each row, k of them from `first` on
@@ -24,6 +25,10 @@ pub record Grid (w group stride k first : ℕ) : Type 0 where
 -- the n new bytes of vector v of the file a, by the recipe of i and of Z registers x and y; vectors have w bytes
 abbrev pub made : Fields → ℕ → ℕ → ℕ → ℕ → List ℕ → ℕ → ℕ → List ℕ → List ℕ
 made f i n w v a x y z = newBytes (recipeOf (f .family) f i) n (vectorAt w v a) (vectorAt w x z) (vectorAt w y z)
+
+-- the destination of a word of A, B or C became new, and t bits changed
+abbrev pub RegisterRenewed : Fields → ℕ → ℕ → List ℕ → List ℕ → Type 0
+RegisterRenewed f w t z z′ = Replaced (f .destination * w) t (made f 0 (newLength (f .family) w) w (f .destination) z (f .first) (f .second) z) z z′
 
 -- the q-th vector that a word of ZA writes: r is q / k and i is q % k
 unfoldable pub place : ℕ → ℕ → ℕ → ℕ → ℕ

@@ -2,15 +2,15 @@ ghost use mathlib.Core.Path.{_≡_};
 ghost use mathlib.Core.Logic.{_⊎_};
 ghost use mathlib.Core.Bool.{true};
 ghost use mathlib.Core.List.{[]};
-ghost use Prim.Native.Nat.{_+_, _-_, _*_, _/_, _%_, _≤_, _<_};
+ghost use Prim.Native.Nat.{_+_, _*_, _/_, _%_, _≤_, _<_};
 ghost use Rattle.settings.specs.Valid.{validSettings, vectorBytes, arrayBytes};
 ghost use Rattle.elements.specs.Files.{replaced};
 ghost use Rattle.bits.specs.Bits.{toggled};
 ghost use Rattle.bits.specs.Replace.{Replaced};
-ghost use Rattle.recipes.specs.Recipe.{newLength, perSource};
+ghost use Rattle.recipes.specs.Recipe.{perSource};
 ghost use Rattle.machine.specs.Modes.{permits};
 ghost use Rattle.machine.specs.Step.{zaAfter};
-ghost use Rattle.machine.specs.Loop.{made, Grid, place, fresh, IntoV, Sources, Places, Ready};
+ghost use Rattle.machine.specs.Loop.{made, RegisterRenewed, Grid, place, fresh, IntoV, Sources, Places, Ready};
 ghost use Rattle.machine.specs.Execute.{executedSays, writtenBits, stepped, Stepped, executeFields, rightLengths, ExecutePromise};
 ghost use Rattle.machine.specs.Run.{reportOf, threeOf};
 ghost use Rattle.machine.specs.declared.Executed.the-variants.{Done};
@@ -50,9 +50,7 @@ pub struct Reported {
 fn step_v(fields: Fields, w: usize, z: &mut [u8]) -> u32
     requires { ⌜ Sources fields w (now z) ⌝ }
     requires { ⌜ IntoV fields ⌝ }
-    ensures { λ t. ⌜ Replaced (fields .destination * w) t
-        (made fields 0 (newLength (fields .family) w) w (fields .destination) (now (z .entry)) (fields .first) (fields .second) (now (z .entry)))
-        (now (z .entry)) (now (z .exit)) ⌝ }
+    ensures { λ t. ⌜ RegisterRenewed fields w t (now (z .entry)) (now (z .exit)) ⌝ }
 {
     let lane = fields.lane as usize;
     let part = fields.part as usize * 8;
@@ -75,9 +73,7 @@ fn step_v(fields: Fields, w: usize, z: &mut [u8]) -> u32
 fn step_saturating(fields: Fields, w: usize, z: &mut [u8]) -> u32
     requires { ⌜ Sources fields w (now z) ⌝ }
     requires { ⌜ (fields .family ≡ Saturating) × (w ≤ 64) ⌝ }
-    ensures { λ t. ⌜ Replaced (fields .destination * w) t
-        (made fields 0 (newLength (fields .family) w) w (fields .destination) (now (z .entry)) (fields .first) (fields .second) (now (z .entry)))
-        (now (z .entry)) (now (z .exit)) ⌝ }
+    ensures { λ t. ⌜ RegisterRenewed fields w t (now (z .entry)) (now (z .exit)) ⌝ }
 {
     let mut room = [0u8; 64];
     let out = &mut room[..w];

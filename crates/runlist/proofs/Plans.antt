@@ -5,11 +5,9 @@ use mathlib.Core.Path.{_≡_, sym, ap, _∙_, subst}
 use mathlib.Core.Bool.{true, false}
 use mathlib.Core.Logic.{_≢_}
 use mathlib.Core.List.{List}
-use lib.Dec.{eqb}
 use lib.ListN.{length, take, drop}
-use borrow.Author.Tests.{lt-leb, le-leb, eq-eqb, ne-eqb, eqb-true}
-use Rattle.laws.proofs.Tests.{both}
-use Rattle.settings.specs.Valid.{validSettings, arrayBytes}
+use borrow.Author.Tests.{lt-leb, le-leb, eq-eqb, ne-eqb}
+use Rattle.settings.specs.Valid.{validSettings}
 use Rattle.settings.specs.declared.Refusal.{Refusal}
 use Rattle.settings.specs.declared.Refusal.the-variants.{BadSettings, BadLength, ListEnds, TooManyWords, ExtraBytes}
 use Rattle.settings.specs.declared.Settings.{Settings}
@@ -18,6 +16,7 @@ use Rattle.numbers.specs.declared.Read.the-variants.{Number, Fault}
 use Rattle.numbers.specs.declared.Row.the-variants as row
 use Rattle.numbers.proofs.Rows.{told-all, told-fault, filled-all, row-within}
 use Rattle.machine.specs.Execute.{rightLengths}
+use Rattle.machine.proofs.Executing.{lengths-exact}
 use Rattle.runlist.specs.Plan.{found, refused, mostWords, endedAt, wordsFrom, asking, zLength, zFrom, settledFrom, settingsOf, headed, planOf}
 use Rattle.runlist.specs.Rooms.{frontSays, Settled, CountRead, RestRead, FrontRead}
 use Rattle.runlist.specs.declared.Front.{Front}
@@ -86,7 +85,7 @@ module _ (list : List ℕ) (room at z : ℕ) where
 -- ---- the settings, the lengths and the Z bytes
 
 pub z-right : (s : Settings) (z za : ℕ) → rightLengths s z za ≡ true → zLength s ≡ z
-z-right s z za e = sym (eqb-true z (zLength s) (both (eqb z (zLength s)) (eqb za (arrayBytes s * arrayBytes s)) e .0))
+z-right s z za e = sym (lengths-exact s z za e .0)
 
 pub z-read : (list : List ℕ) (z za room : ℕ) (s : Settings) (at : ℕ) → validSettings s ≡ true → rightLengths s z za ≡ true → at + z ≤ length list
     → asking s (take z (drop at list)) (wordsFrom list room (at + z)) ≡ settledFrom list z za room s at

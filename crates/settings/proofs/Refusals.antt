@@ -38,7 +38,7 @@ numbered-back ExtraBytes = refl
 pub refusal-known : (r q : Refusal) → refusalNumber r ≡ refusalNumber q → r ≡ q
 refusal-known r q e = sym (numbered-back r) ∙ ap numbered e ∙ numbered-back q
 
-pub refusal-not-0 : (r : Refusal) → 0 < refusalNumber r
+refusal-not-0 : (r : Refusal) → 0 < refusalNumber r
 refusal-not-0 BadSettings = omega arith
 refusal-not-0 BadLength = omega arith
 refusal-not-0 UnknownWord = omega arith

@@ -1,7 +1,7 @@
 -- The fields of a described word are in range: of each row, from the text of its layout. Assumes nothing.
 use Prim.Native.Nat.{ℕ, zero, suc, _+_, _*_, _/_, _%_, _^_, _<_}
 use native.Mathlib.Omega.{arith}
-use mathlib.Core.Path.{_≡_, refl}
+use mathlib.Core.Path.{_≡_, refl, subst}
 use mathlib.Core.Logic.{_⊎_, inl, inr}
 use mathlib.Core.Bool.{false}
 use lib.Dec.{eqb}
@@ -10,7 +10,8 @@ use Rattle.laws.proofs.Bits.{one-bit}
 use Rattle.laws.proofs.Tests.{cond-holds}
 use Rattle.words.specs.Rows.{rowC16, rowC32, rowD2, rowD4, rowE2, rowE4}
 use Rattle.words.specs.Says.{As, Row, entryA, entryB, entry, fieldsA16, fieldsA32, fieldsC, fieldsD, fieldsE, describe}
-use Rattle.words.specs.Ranges.{Ranges}
+use Rattle.words.specs.Ranges.{Ranges, OfFamily}
+use Rattle.words.specs.declared.Family.{Family}
 use Rattle.words.specs.declared.Fields.{Fields}
 use Rattle.words.proofs.Table.{WhereSaid, said-each}
 
@@ -73,3 +74,7 @@ in-e4 w m o = record { lane = inr (inl refl); part = omega arith; index = omega 
 pub in-range : (w : ℕ) (f : Fields) → describe w ≡ As f → Ranges f
 in-range w f =
     said-each Ranges w f (in-a w, (in-b w, (in-c16 w, (in-c32 w, (in-d2 w, (in-d4 w, (in-e2 w, (in-e4 w, tt))))))))
+
+-- what the ranges say of the family, where it is known
+pub in-family : (f : Fields) → Ranges f → (family : Family) → f .family ≡ family → OfFamily family f
+in-family f g family e = subst (λ (x : Family). OfFamily x f) e (g .of-family)

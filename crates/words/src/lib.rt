@@ -1,5 +1,5 @@
 ghost use mathlib.Core.Path.{_≡_};
-ghost use Prim.Native.Nat.{_+_, _*_, _/_, _%_, _^_, _<_};
+ghost use Prim.Native.Nat.{_*_, _^_, _<_};
 ghost use Rattle.layouts.specs.Layout.{matches};
 ghost use Rattle.words.specs.Numbers.{familyNumber, bitOf};
 ghost use Rattle.words.specs.Rows.{rowA, rowB, rowC16, rowC32, rowD2, rowD4, rowE2, rowE4};

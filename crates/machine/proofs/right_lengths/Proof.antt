@@ -1,7 +1,6 @@
 -- `machine::right_lengths` meets its contract. Assumes nothing.
 use native.Mathlib.Omega.{arith}
-use Rattle.settings.proofs.Lengths.{array-length}
-use Rattle.machine.proofs.Renewal.{array-small-by}
+use Rattle.settings.proofs.Lengths.{array-at-most}
 use borrow.Author.Needs.{needs}
 use Rattle.machine.proofs.right_lengths.Statement.{statement}
 use Rattle.machine.proofs.right_lengths.Tie as tie
@@ -24,7 +23,7 @@ mul-result c = search needs
 mul-result-2 : tie.Need-mul-result-2
 mul-result-2 c =
     let s = c .before .before in
-    omega (arith, array-small-by (array-length (s .args .settings) (s .pre)) _ (c .array-bytes .ensures))
+    omega (arith, array-at-most (s .args .settings) (s .pre) _ (c .array-bytes .ensures))
 
 returns : tie.Need-returns
 returns c = rw (c .before .vector-bytes .ensures, c .array-bytes .ensures)

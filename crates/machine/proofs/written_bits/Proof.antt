@@ -1,14 +1,14 @@
 -- `machine::written_bits` meets its contract, family by family. Assumes nothing.
 use Prim.Native.Nat.{_*_, _≤_}
+use native.Mathlib.Nat.{mul-le-mul}
 use native.Mathlib.Omega.{arith}
-use Rattle.machine.proofs.Stepping.{product-small}
 use borrow.Author.Needs.{needs}
 use Rattle.machine.proofs.written_bits.Statement.{statement}
 use Rattle.machine.proofs.written_bits.Tie as tie
 
 -- whatever the branch, the product fits
 small : (s : tie.Start) → s .args .vl * s .args .group ≤ 65536
-small s = product-small (s .args .vl) (s .args .group) (s .pre .0) (s .pre .1)
+small s = mul-le-mul (s .pre .0) (s .pre .1)
 
 enum-told : tie.Need-enum-told
 enum-told c = search needs

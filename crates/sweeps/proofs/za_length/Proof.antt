@@ -1,20 +1,9 @@
--- `sweeps::za_length` meets its contract: a vector of ZA has at most 64 bytes, as a register has. Assumes nothing.
-use Prim.Native.Nat.{ℕ, _*_, _≤_}
-use native.Mathlib.Nat.{mul-le-mul}
+-- `sweeps::za_length` meets its contract: ZA has at most 4,096 bytes. Assumes nothing.
 use native.Mathlib.Omega.{arith}
-use mathlib.Core.Path.{_≡_}
-use mathlib.Core.Bool.{true}
 use borrow.Author.Needs.{needs}
-use Rattle.settings.specs.Valid.{validSettings, arrayBytes}
-use Rattle.settings.specs.declared.Settings.{Settings}
-use Rattle.settings.proofs.Lengths.{vector-at-most, same-length}
+use Rattle.settings.proofs.Lengths.{array-at-most}
 use Rattle.sweeps.proofs.za_length.Statement.{statement}
 use Rattle.sweeps.proofs.za_length.Tie as tie
-
-array-at-most : (s : Settings) → validSettings s ≡ true → (x : ℕ) → x ≡ arrayBytes s → x * x ≤ 4096
-array-at-most s v x e =
-    let b : x ≤ 64 = omega (arith, e, same-length s, vector-at-most s v) in
-    mul-le-mul b b
 
 array-bytes-requires : tie.Need-array-bytes-requires
 array-bytes-requires c κs = search needs
