@@ -57,14 +57,14 @@ module _ (f : ℕ → ℕ → ℕ) where
   bytes-append (a ∷ s) [] u v e = absurd (omega arith)
   bytes-append (a ∷ s) (b ∷ t) u v e = rw (bytes-append s t u v (omega arith)) (sym (add-assoc _ _ _))
 
-  pub bytes-cut : (at : ℕ) (s t : List ℕ) → length s ≡ length t
+  bytes-cut : (at : ℕ) (s t : List ℕ) → length s ≡ length t
       → overBytes f s t ≡ overBytes f (take at s) (take at t) + overBytes f (drop at s) (drop at t)
   bytes-cut at s t long =
       ap₂ (overBytes f) (sym (take-append-drop at s)) (sym (take-append-drop at t))
       ∙ bytes-append (take at s) (take at t) (drop at s) (drop at t) (rw (length-take at s, length-take at t, long))
 
   -- three parts: before `at`, the w bytes from there, and after them
-  pub bytes-parts : (at w : ℕ) (s t : List ℕ) → length s ≡ length t
+  bytes-parts : (at w : ℕ) (s t : List ℕ) → length s ≡ length t
       → overBytes f s t
       ≡ overBytes f (take at s) (take at t) + (overBytes f (take w (drop at s)) (take w (drop at t)) + overBytes f (drop (at + w) s) (drop (at + w) t))
   bytes-parts at w s t long =
@@ -94,7 +94,7 @@ module _ (f : ℕ → ℕ → ℕ) (same : Unmoved f) where
   bytes-same (x ∷ s) = rw (bits-same 8 x, bytes-same s)
 
   -- a splice changes the bits of its own bytes
-  pub bytes-splice : (at : ℕ) (x s : List ℕ) → at + length x ≤ length s
+  bytes-splice : (at : ℕ) (x s : List ℕ) → at + length x ≤ length s
       → overBytes f s (splice at x s) ≡ overBytes f (take (length x) (drop at s)) x
   bytes-splice at x s fit =
       bytes-parts f at (length x) s (splice at x s) (sym (length-splice at x s fit))
@@ -140,7 +140,7 @@ module _ (f : ℕ → ℕ → ℕ) (once : Once f) where
 -- ---- the two lists turned
 
 module _ (f g : ℕ → ℕ → ℕ) (turned : (x y : ℕ) → x < 2 → y < 2 → f x y ≡ g y x) where
-  pub bits-turned : (k a b : ℕ) → overBits f k a b ≡ overBits g k b a
+  bits-turned : (k a b : ℕ) → overBits f k a b ≡ overBits g k b a
   unfolding overBits
   bits-turned zero a b = refl
   bits-turned (suc k) a b = rw (turned (a % 2) (b % 2) (two-lt a) (two-lt b), bits-turned k (a / 2) (b / 2))

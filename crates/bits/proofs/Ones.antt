@@ -12,7 +12,7 @@ use Rattle.bits.specs.Bits.{overBits}
 use Rattle.bits.proofs.Bits.{two-lt}
 
 -- the ones of an operation that goes bit by bit
-pub ones-over : (op f : ℕ → ℕ → ℕ) → op 0 0 ≡ 0 → ((a b : ℕ) → op a b ≡ op (a / 2) (b / 2) * 2 + f (a % 2) (b % 2))
+ones-over : (op f : ℕ → ℕ → ℕ) → op 0 0 ≡ 0 → ((a b : ℕ) → op a b ≡ op (a / 2) (b / 2) * 2 + f (a % 2) (b % 2))
     → ((x y : ℕ) → x < 2 → y < 2 → f x y < 2) → (k a b : ℕ) → a < 2 ^ k → b < 2 ^ k → ones (op a b) ≡ overBits f k a b
 unfolding overBits ones
 ones-over op f z step small zero a b ha hb = rw (lt-one ha, lt-one hb, z)

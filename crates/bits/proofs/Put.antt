@@ -28,7 +28,7 @@ module _ (f : ℕ → ℕ → ℕ) where
       (sym (bits-mod f 8 g (v / 2 ^ (8 * k))) ∙ rw (mod-eq-of-lt hg)))
 
   -- an element is written where the two lists agreed so far
-  pub bytes-put : Unmoved f → (k at v : ℕ) (s t : List ℕ) → length s ≡ length t → Bytes s → at + k ≤ length t
+  bytes-put : Unmoved f → (k at v : ℕ) (s t : List ℕ) → length s ≡ length t → Bytes s → at + k ≤ length t
       → ((i : ℕ) → i < k → getD t (at + i) 0 ≡ getD s (at + i) 0)
       → overBytes f s (putAt k at v t) ≡ overBytes f s t + overBits f (8 * k) (elementAt k at s) v
   unfolding putAt elementAt overBits

@@ -4,8 +4,8 @@ ghost use Prim.Native.Nat.{_<_};
 use machine::Reported;
 use words::Decoded;
 
-// Nineteen numbers of eight digits, and a space or the line's end after each.
-const LINE: usize = 171;
+// The bytes of a line: nineteen columns.
+const LINE: usize = 19 * stored::COLUMN;
 
 // The columns of a line, after the settings.
 const WORD: usize = 7;

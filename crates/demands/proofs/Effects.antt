@@ -157,7 +157,7 @@ module _ (s : Settings) (v : VectorLength (arrayBytes s)) (f : Fields) (g : Rang
   pub za-elsewhere : (u : ℕ) → u < arrayBytes s → (Among (perSource (f .family)) s f u → ⊥) → zaVector s (zaAfter s f z za) u ≡ zaVector s za u
   za-elsewhere u h out = each-za u h ∙ rw (failed (writesVector s f u) (λ e. out (among s v f g into u h e)))
 
-  pub za-vector : (r i : ℕ) → r < f .group → i < perSource (f .family)
+  za-vector : (r i : ℕ) → r < f .group → i < perSource (f .family)
       → zaVector s (zaAfter s f z za) (firstVector s f + r * stride s f + i)
       ≡ newVector s f z r i (zaVector s za (firstVector s f + r * stride s f + i))
   za-vector r i hr hi =

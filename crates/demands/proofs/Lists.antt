@@ -6,9 +6,10 @@ use native.Mathlib.Decide.{decLe}
 use mathlib.Core.Path.{_≡_, refl, sym, ap, _∙_}
 use mathlib.Core.Logic.{_≢_}
 use mathlib.Core.List.{List, [], _∷_, _++_}
-use lib.ListN.{length, take, drop, length-append, length-take, length-drop, take-append-drop}
-use lib.Seq.{length-take-le, take-all}
+use lib.ListN.{length, take, drop, length-append, length-take, length-drop}
+use lib.Seq.{length-take-le}
 use borrow.Author.Tests.{ne-eqb}
+use Rattle.laws.proofs.Lists.{first-decide}
 use Rattle.settings.specs.declared.Refusal.{Refusal}
 use Rattle.settings.specs.declared.Refusal.the-variants.{ExtraBytes}
 use Rattle.settings.specs.declared.Settings.{Settings}
@@ -59,12 +60,7 @@ at-most-longest list z za room a e =
 
 pub enough-bytes : EnoughBytes
 enough-bytes k h list z za room =
-    elim (decLe (length list) k) [
-      | yes y ↦ ap (λ (l : List ℕ). planOf l z za room) (take-all k list y)
-      | no n ↦
-          let long : length (take k list) ≡ k = length-take-le k list (omega arith) in
-          sym (first-bytes-decide (take k list) (drop k list) z za room (omega arith)) ∙ ap (λ (l : List ℕ). planOf l z za room) (take-append-drop k list)
-    ]
+    first-decide (λ (l : List ℕ). planOf l z za room) k (λ xs ys (e : length xs ≡ k). first-bytes-decide xs ys z za room (omega arith)) list
 
 pub run-of-enough : RunOfEnough
 unfolding runPaper

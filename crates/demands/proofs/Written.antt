@@ -113,7 +113,7 @@ module _ (z za room : ℕ) (a : Asked) (k : Askable z za room a) where
   inside : length head + z ≤ length (written a)
   inside = omega (arith, ap length to-count, length-append (head ++ a .z) behind, count-place)
 
-  pub is-read : planOf (written a) z za room ≡ found a
+  is-read : planOf (written a) z za room ≡ found a
   unfolding planOf
   is-read =
       ap (headed (written a) z za room) header-is

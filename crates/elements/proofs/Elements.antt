@@ -83,7 +83,7 @@ pub elementAt-take : (k at w : ℕ) (s : List ℕ) → at + k ≤ w → elementA
 elementAt-take k at w s h = elementAt-same k at at (take w s) s (λ i q. getD-take w s (at + i) 0 (omega arith))
 
 -- the digits of v are v
-pub elementAt-digits : (k at v : ℕ) (s : List ℕ) → ((i : ℕ) → i < k → getD s (at + i) 0 ≡ v / 256 ^ i % 256) → elementAt k at s ≡ v % 256 ^ k
+elementAt-digits : (k at v : ℕ) (s : List ℕ) → ((i : ℕ) → i < k → getD s (at + i) 0 ≡ v / 256 ^ i % 256) → elementAt k at s ≡ v % 256 ^ k
 unfolding elementAt
 elementAt-digits zero at v s h = sym (mod-one v)
 elementAt-digits (suc k) at v s h =
@@ -105,7 +105,7 @@ module _ (at v : ℕ) (s : List ℕ) where
   length-put (suc k) = simp (length-set, length-put k)
 
   -- each byte: before, after, and in the place that is written
-  pub put-before : (k i : ℕ) → i < at → getD (putAt k at v s) i 0 ≡ getD s i 0
+  put-before : (k i : ℕ) → i < at → getD (putAt k at v s) i 0 ≡ getD s i 0
   unfolding putAt
   put-before zero i h = refl
   put-before (suc k) i h = getD-set-other (putAt k at v s) (at + k) i (v / 256 ^ k % 256) 0 (λ (e : i ≡ at + k). omega arith) ∙ put-before k i h
@@ -115,7 +115,7 @@ module _ (at v : ℕ) (s : List ℕ) where
   put-after zero i h = refl
   put-after (suc k) i h = getD-set-other (putAt k at v s) (at + k) i (v / 256 ^ k % 256) 0 (λ (e : i ≡ at + k). omega arith) ∙ put-after k i (omega arith)
 
-  pub put-in : (k i : ℕ) → at + k ≤ length s → i < k → getD (putAt k at v s) (at + i) 0 ≡ v / 256 ^ i % 256
+  put-in : (k i : ℕ) → at + k ≤ length s → i < k → getD (putAt k at v s) (at + i) 0 ≡ v / 256 ^ i % 256
   unfolding putAt
   put-in (suc k) i r h =
       ⊎-elim

@@ -57,7 +57,7 @@ module _ (at : ℕ) (x s : List ℕ) (fit : at + length x ≤ length s) where
       rw e (sym (getD-drop (at + length x) (splice at x s) j 0) ∙ rw drop-splice (getD-drop (at + length x) s j 0))
 
 -- two lists of one length have the same part where they have the same bytes
-pub part-same : (a w : ℕ) (s t : List ℕ) → length s ≡ length t → ((i : ℕ) → i < w → getD s (a + i) 0 ≡ getD t (a + i) 0)
+part-same : (a w : ℕ) (s t : List ℕ) → length s ≡ length t → ((i : ℕ) → i < w → getD s (a + i) 0 ≡ getD t (a + i) 0)
     → take w (drop a s) ≡ take w (drop a t)
 part-same a w s t long h =
     ext-getD 0 (take w (drop a s)) (take w (drop a t)) (rw (length-take w (drop a s), length-take w (drop a t), length-drop a s, length-drop a t, long))
@@ -93,11 +93,11 @@ module _ (w v : ℕ) (x s : List ℕ) (long : length x ≡ w) (fit : (v + 1) * w
   fits : v * w + length x ≤ length s
   fits = omega (arith, next v w)
 
-  pub vectorAt-splice-same : vectorAt w v (splice (v * w) x s) ≡ x
+  vectorAt-splice-same : vectorAt w v (splice (v * w) x s) ≡ x
   unfolding vectorAt
   vectorAt-splice-same = ap (λ (k : ℕ). take k (drop (v * w) (splice (v * w) x s))) (sym long) ∙ part-splice (v * w) x s fits
 
-  pub vectorAt-splice-other : (u : ℕ) → u ≢ v → vectorAt w u (splice (v * w) x s) ≡ vectorAt w u s
+  vectorAt-splice-other : (u : ℕ) → u ≢ v → vectorAt w u (splice (v * w) x s) ≡ vectorAt w u s
   unfolding vectorAt
   vectorAt-splice-other u apart = part-same (u * w) w (splice (v * w) x s) s (length-splice (v * w) x s fits) (side (decLe u v))
     where
@@ -111,18 +111,18 @@ module _ (w v : ℕ) (x s : List ℕ) (long : length x ≡ w) (fit : (v + 1) * w
 
 -- ---- lists one after the other
 
-pub laid-cong : (f g : ℕ → List ℕ) (n : ℕ) → ((v : ℕ) → v < n → f v ≡ g v) → laid f n ≡ laid g n
+laid-cong : (f g : ℕ → List ℕ) (n : ℕ) → ((v : ℕ) → v < n → f v ≡ g v) → laid f n ≡ laid g n
 unfolding laid
 laid-cong f g zero h = refl
 laid-cong f g (suc n) h = rw (laid-cong f g n (λ v q. h v (omega arith)), h n (le-refl (suc n)))
 
 module _ (f : ℕ → List ℕ) (w : ℕ) where
-  pub length-laid : (n : ℕ) → ((v : ℕ) → v < n → length (f v) ≡ w) → length (laid f n) ≡ n * w
+  length-laid : (n : ℕ) → ((v : ℕ) → v < n → length (f v) ≡ w) → length (laid f n) ≡ n * w
   unfolding laid
   length-laid zero h = sym (zero-mul w)
   length-laid (suc n) h = rw (length-append, length-laid n (λ v q. h v (omega arith)), h n (le-refl (suc n)), suc-mul)
 
-  pub vectorAt-laid : (n v : ℕ) → v < n → ((u : ℕ) → u < n → length (f u) ≡ w) → vectorAt w v (laid f n) ≡ f v
+  vectorAt-laid : (n v : ℕ) → v < n → ((u : ℕ) → u < n → length (f u) ≡ w) → vectorAt w v (laid f n) ≡ f v
   unfolding laid vectorAt
   vectorAt-laid zero v h wide = absurd (omega arith)
   vectorAt-laid (suc n) v h wide =
@@ -142,7 +142,7 @@ laid-take w zero s = rw zero-mul
 laid-take w (suc n) s = rw (laid-take w n s, suc-mul) (sym (take-add (n * w) w s))
 
 -- a file is its vectors one after the other
-pub laid-vectorAt : (w n : ℕ) (s : List ℕ) → length s ≡ n * w → laid (λ v. vectorAt w v s) n ≡ s
+laid-vectorAt : (w n : ℕ) (s : List ℕ) → length s ≡ n * w → laid (λ v. vectorAt w v s) n ≡ s
 laid-vectorAt w n s long = laid-take w n s ∙ take-all (n * w) s (omega arith)
 
 -- ---- a file in which some vectors are new
@@ -235,7 +235,7 @@ module _ (place : ℕ → ℕ) (new : ℕ → List ℕ) (w n : ℕ) (s : List �
       ∙ replaced-out count v (fewer count P) (λ q h. out q (omega arith))
 
   -- the one that is replaced p-th is new
-  pub replaced-in : (count p : ℕ) → Placed place new w n count s → Distinct place count → p < count
+  replaced-in : (count p : ℕ) → Placed place new w n count s → Distinct place count → p < count
       → vectorAt w (place p) (replaced place new w count s) ≡ new p
   unfolding replaced
   replaced-in zero p P apart h = absurd (omega arith)

@@ -19,7 +19,7 @@ within e count k h = rw (← suc-mul e k) (mul-le-mul-right k h)
 
 -- ---- a vector
 
-pub length-lowBytes : (k v : ℕ) → length (lowBytes k v) ≡ k
+length-lowBytes : (k v : ℕ) → length (lowBytes k v) ≡ k
 unfolding lowBytes
 length-lowBytes zero v = refl
 length-lowBytes (suc k) v = rw (length-append, length-lowBytes k v) (omega arith)
@@ -70,7 +70,7 @@ module _ (f : ℕ → ℕ) (k base : ℕ) (s : List ℕ) where
       put-after (base + n * k) (f n) (W n) k i (omega arith) ∙ written-after n i (omega arith)
 
   -- element e of what is written is f e
-  pub written-element : (n e : ℕ) → e < n → base + n * k ≤ length s → elementAt k (base + e * k) (written f k base n s) ≡ f e % 256 ^ k
+  written-element : (n e : ℕ) → e < n → base + n * k ≤ length s → elementAt k (base + e * k) (written f k base n s) ≡ f e % 256 ^ k
   unfolding written
   written-element zero e h r = absurd (omega arith)
   written-element (suc n) e h r =
@@ -104,7 +104,7 @@ written-splice f k base (suc n) s h =
     ∙ rw (drop-drop, length-append, length-lowBytes, length-vector) (simp (append-assoc, add-assoc)))
 
 -- in a buffer of exactly their bytes, what is left is the vector
-pub written-vector : (f : ℕ → ℕ) (k n : ℕ) (s : List ℕ) → length s ≡ n * k → written f k 0 n s ≡ vector f k n
+written-vector : (f : ℕ → ℕ) (k n : ℕ) (s : List ℕ) → length s ≡ n * k → written f k 0 n s ≡ vector f k n
 written-vector f k n s long =
     written-splice f k 0 n s (omega arith)
     ∙ rw (drop-of-length-le s {i = 0 + length (vector f k n)} (rw length-vector (omega arith))) (append-nil _)
@@ -123,7 +123,7 @@ vector-element f k n e h =
 -- ---- a list is known by its elements
 
 -- an element that is put where it stands changes nothing
-pub put-self : (k at v : ℕ) (s : List ℕ) → Bytes s → v % 256 ^ k ≡ elementAt k at s → putAt k at v s ≡ s
+put-self : (k at v : ℕ) (s : List ℕ) → Bytes s → v % 256 ^ k ≡ elementAt k at s → putAt k at v s ≡ s
 unfolding putAt elementAt
 put-self zero at v s b e = refl
 put-self (suc k) at v s b e =

@@ -25,7 +25,7 @@ bool-refl false = refl
 number-refl : (a : ℕ) → eqb a a ≡ true
 number-refl a = eq-eqb a a refl
 
-pub same-eq : (f g : Fields) → sameOf f g ≡ true → f ≡ g
+same-eq : (f g : Fields) → sameOf f g ≡ true → f ≡ g
 same-eq f g e =
     let a = both _ _ e in
     let b = both _ _ (a .0) in
@@ -52,7 +52,7 @@ same-eq f g e =
     let unsigned : f .unsigned ≡ g .unsigned = bool-eq _ _ (o .0) in
     λ i. record { family = family i; unsigned = unsigned i; subtract = subtract i; lane = lane i; part = part i; index = index i; destination = destination i; first = first i; second = second i; group = group i; select = select i; offset = offset i }
 
-pub same-refl : (f : Fields) → sameOf f f ≡ true
+same-refl : (f : Fields) → sameOf f f ≡ true
 same-refl f = simp (bool-refl, number-refl)
 
 pub says-eq : (f : Fields) (d : Described) → saysOnly f d ≡ true → d ≡ As f

@@ -1,14 +1,14 @@
 -- What is put down of an answer: its two halves, and the numbers of the arrays. Assumes nothing.
-use Prim.Native.Nat.{ℕ, _^_, _<_}
-use mathlib.Core.Path.{_≡_, sym, ap, ap₂, _∙_, subst}
-use mathlib.Core.Bool.{Bool, true, false, cond}
+use Prim.Native.Nat.{ℕ}
+use mathlib.Core.Path.{_≡_, refl, ap, ap₂}
+use mathlib.Core.Bool.{true, false}
 use mathlib.Core.List.{List, [], _∷_}
 use lib.ListN.{getD}
 use lib.Arith.{digits-div, digits-mod}
-use borrow.Author.Tests.{ne-eqb}
+use Rattle.laws.proofs.Tests.{cond-yes, cond-no}
 use Rattle.settings.specs.Refused.{refusalNumber}
 use Rattle.settings.specs.declared.Refusal.{Refusal}
-use Rattle.settings.proofs.Refusals.{not-0}
+use Rattle.settings.proofs.Refusals.{tests-not-0}
 use Rattle.words.specs.Decode.{decodedSays}
 use Rattle.words.specs.declared.Fields.{Fields}
 use Rattle.words.specs.declared.Decoded.{Decoded}
@@ -21,7 +21,7 @@ use Rattle.runlist.specs.declared.RunAnswer.{RunAnswer}
 use Rattle.runlist.specs.declared.RunAnswer.the-variants as answer
 use Rattle.host.specs.declared.FieldsOf.the-variants.{Are, Nothing}
 use Rattle.words.specs.Numbers.{familyOf}
-use Rattle.host.specs.Host.{halves, fieldNumbers, areFields, fieldsWith, fieldsOf, decodedInto, ExecutedPut, RanPut, Fits}
+use Rattle.host.specs.Host.{halves, fieldNumbers, areFields, fieldsWith, fieldsOf, decodedInto, ExecutedPut, RanPut}
 use Rattle.host.specs.Theorems.{HalvesBack}
 
 -- ---- the halves
@@ -34,18 +34,18 @@ halves-back refusal value h = ap₂ (λ (a b : ℕ). (a, b)) (digits-mod value h
 module _ (n : List ℕ) where
   pub no-fields : areFields n ≡ false → Nothing ≡ fieldsOf n
   unfolding fieldsOf
-  no-fields e = ap (λ (b : Bool). cond b (Are (fieldsWith (familyOf (getD n 0 0)) n)) Nothing) (sym e)
+  no-fields e = cond-no (areFields n) _ _ _ e refl
 
   pub some-fields : (f : Fields) → areFields n ≡ true → f ≡ fieldsWith (familyOf (getD n 0 0)) n → Are f ≡ fieldsOf n
   unfolding fieldsOf
-  some-fields f e g = ap Are g ∙ ap (λ (b : Bool). cond b (Are (fieldsWith (familyOf (getD n 0 0)) n)) Nothing) (sym e)
+  some-fields f e g = cond-yes (areFields n) _ _ _ e (ap Are g)
 
 -- ---- decode
 
 module _ (a : Decoded) (fields : List ℕ) where
   pub decoded-refused : (x : Refusal) (r : ℕ) → a ≡ decoded.Refused x → halves r ≡ (refusalNumber x, 0)
       → (halves r, fields) ≡ decodedInto (decodedSays a) fields
-  decoded-refused x r e h = rw (e, ne-eqb (refusalNumber x) 0 (not-0 x)) (ap (λ (p : ℕ × ℕ). (p, fields)) h)
+  decoded-refused x r e h = rw (e, tests-not-0 x) (ap (λ (p : ℕ × ℕ). (p, fields)) h)
 
   pub decoded-word : (f : Fields) (fields′ : List ℕ) → a ≡ decoded.Word f → fields′ ≡ fieldNumbers f
       → (halves 0, fields′) ≡ decodedInto (decodedSays a) fields
@@ -56,26 +56,17 @@ module _ (a : Decoded) (fields : List ℕ) where
 module _ (a : Executed) (counts : List ℕ) where
   pub executed-refused : (x : Refusal) (r : ℕ) → a ≡ executed.Refused x → halves r ≡ (refusalNumber x, 0) → ExecutedPut a counts r counts
   executed-refused x r e h z za =
-      rw (e, ne-eqb (refusalNumber x) 0 (not-0 x))
-      (ap (λ (p : ℕ × ℕ). record { answer = p; z = z; za = za; counts = counts }) h)
+      rw (e, tests-not-0 x) (ap (λ (p : ℕ × ℕ). record { answer = p; z = z; za = za; counts = counts }) h)
 
   pub executed-done : (c : Counts) → a ≡ executed.Done c → ExecutedPut a counts 0 (c .toggled ∷ c .written ∷ [])
   executed-done c e z za = rw e
 
 -- ---- run
 
--- a place, or a count of words, that has 32 bits
-pub place-fits : (a : RunAnswer) (x : Refusal) (p : ℕ) → a ≡ answer.Refused x p → Fits a → p < 2 ^ 32
-place-fits a x p e h = subst Fits e h
-
-pub words-fit : (a : RunAnswer) (n : ℕ) (t : Tally) → a ≡ answer.Ran n t → Fits a → n < 2 ^ 32
-words-fit a n t e h = subst Fits e h
-
 module _ (a : RunAnswer) (totals : List ℕ) where
   pub ran-refused : (x : Refusal) (p r : ℕ) → a ≡ answer.Refused x p → halves r ≡ (refusalNumber x, p) → RanPut a totals r totals
   ran-refused x p r e h z za report =
-      rw (e, ne-eqb (refusalNumber x) 0 (not-0 x))
-      (ap (λ (q : ℕ × ℕ). record { answer = q; z = z; za = za; report = report; totals = totals }) h)
+      rw (e, tests-not-0 x) (ap (λ (q : ℕ × ℕ). record { answer = q; z = z; za = za; report = report; totals = totals }) h)
 
   pub ran-done : (n : ℕ) (t : Tally) → a ≡ answer.Ran n t → RanPut a totals 0 (n ∷ t .toggled ∷ t .written ∷ [])
   ran-done n t e z za report = rw e

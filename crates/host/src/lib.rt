@@ -35,10 +35,10 @@ fn answer_of(refusal: u32, value: u32) -> u64
     value as u64 * HIGH_HALF + refusal as u64
 }
 
-fn refused(refusal: Refusal) -> u64
-    ensures { λ r. ⌜ halves r ≡ (refusalNumber refusal, 0) ⌝ }
+fn refused(refusal: Refusal, value: u32) -> u64
+    ensures { λ r. ⌜ halves r ≡ (refusalNumber refusal, value) ⌝ }
 {
-    answer_of(settings::refusal_number(refusal), 0)
+    answer_of(settings::refusal_number(refusal), value)
 }
 
 // The family of a number from 1 to 5.
@@ -113,7 +113,7 @@ fn decoded(answer: Decoded, fields: &mut [u32; 12]) -> u64
     ensures { λ r. ⌜ (halves r, now (fields .exit)) ≡ decodedInto (decodedSays answer) (now (fields .entry)) ⌝ }
 {
     match answer {
-        Decoded::Refused(refusal) => refused(refusal),
+        Decoded::Refused(refusal) => refused(refusal, 0),
         Decoded::Word(found) => {
             put_fields(found, fields);
             0
@@ -136,7 +136,7 @@ fn encoded(answer: Encoded) -> u64
     ensures { λ r. ⌜ halves r ≡ encodedSays answer ⌝ }
 {
     match answer {
-        Encoded::Refused(refusal) => refused(refusal),
+        Encoded::Refused(refusal) => refused(refusal, 0),
         Encoded::Word(word) => answer_of(0, word),
     }
 }
@@ -146,9 +146,9 @@ fn no_fields(settings: Settings) -> u64
     ensures { λ r. ⌜ halves r ≡ cond (validSettings settings) (5, 0) (1, 0) ⌝ }
 {
     if settings.valid() {
-        return refused(Refusal::NoSuchWord);
+        return refused(Refusal::NoSuchWord, 0);
     }
-    refused(Refusal::BadSettings)
+    refused(Refusal::BadSettings, 0)
 }
 
 // The word that has exactly these fields. Refusals 1, 5, 3.
@@ -167,7 +167,7 @@ fn partnered(answer: Partnered) -> u64
     ensures { λ r. ⌜ halves r ≡ partneredSays answer ⌝ }
 {
     match answer {
-        Partnered::Refused(refusal) => refused(refusal),
+        Partnered::Refused(refusal) => refused(refusal, 0),
         Partnered::Word(word) => answer_of(0, word),
     }
 }
@@ -184,7 +184,7 @@ fn executed(answer: Executed, counts: &mut [u32; 2]) -> u64
     ensures { λ r. ⌜ ExecutedPut answer (now (counts .entry)) r (now (counts .exit)) ⌝ }
 {
     match answer {
-        Executed::Refused(refusal) => refused(refusal),
+        Executed::Refused(refusal) => refused(refusal, 0),
         Executed::Done(done) => {
             *counts = [done.toggled, done.written];
             0
@@ -222,10 +222,7 @@ fn ran(answer: RunAnswer, totals: &mut [u32; 3]) -> u64
     ensures { λ r. ⌜ RanPut answer (now (totals .entry)) r (now (totals .exit)) ⌝ }
 {
     match answer {
-        RunAnswer::Refused { refusal, place } => answer_of(
-            settings::refusal_number(refusal),
-            place as u32,
-        ),
+        RunAnswer::Refused { refusal, place } => refused(refusal, place as u32),
         RunAnswer::Ran { words, tally } => {
             *totals = [words as u32, tally.toggled, tally.written];
             0

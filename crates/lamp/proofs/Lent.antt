@@ -29,7 +29,7 @@ square n h = mul-le-mul h h
 abbrev noughts : ℕ → List ℕ
 noughts n = replicate n 0
 
-pub zeros : (k n : ℕ) → k ≤ n → take k (noughts n) ≡ noughts k
+zeros : (k n : ℕ) → k ≤ n → take k (noughts n) ≡ noughts k
 zeros k n h =
     let split : k + (n - k) ≡ n = omega arith in
     ap (take k) (ap noughts (sym split) ∙ sym (replicate-append-replicate k (n - k) 0))

@@ -5,11 +5,10 @@ use mathlib.Core.Path.{_≡_, refl, sym, ap, ap₂, _∙_}
 use mathlib.Core.List.{List, _++_}
 use lib.ListN.{length, take, drop}
 use lib.Seq.{take-at}
-use borrow.Author.Tests.{ne-eqb}
 use Rattle.settings.specs.Refused.{refusalNumber}
 use Rattle.settings.specs.declared.Refusal.{Refusal}
 use Rattle.settings.specs.declared.Settings.{Settings}
-use Rattle.settings.proofs.Refusals.{not-0}
+use Rattle.settings.proofs.Refusals.{not-0, tests-not-0}
 use Rattle.tally.specs.declared.Tally.{Tally}
 use Rattle.numbers.specs.Numbers.{numbersAt}
 use Rattle.runlist.specs.Plan.{Found, found, refused, Asked, mostWords, endedAt, asking, planOf}
@@ -68,7 +67,7 @@ module _ (list z za report z′ za′ report′ : List ℕ) where
   unfolding linesOf textOf
   text-refused r p n e k =
       ap (λ (m : ℕ). refusedLine m p) k
-      ∙ sym (rw (ne-eqb (refusalNumber r) 0 (not-0 r)))
+      ∙ sym (rw (tests-not-0 r))
       ∙ ap (textOf (wordsOf (planOf list (length z) (length za) (length report)))) e
 
 -- the words in front are those of the list

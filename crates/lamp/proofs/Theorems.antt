@@ -1,13 +1,13 @@
 -- The statements of specs/Theorems.antt, proved. Assumes nothing.
 use Prim.Native.Nat.{ℕ, _*_, _/_, _<_}
 use native.Mathlib.Omega.{arith}
-use mathlib.Core.Path.{_≡_, refl, sym, ap, ap₂, _∙_}
+use mathlib.Core.Path.{_≡_, refl, ap, ap₂, _∙_}
 use mathlib.Core.Logic.{_≢_}
 use mathlib.Core.Bool.{true}
 use mathlib.Core.List.{List}
-use lib.ListN.{length, getD, take, drop, replicate, take-append-drop}
-use lib.Seq.{take-all, length-take-le}
-use Rattle.laws.proofs.Tests.{never-both, by-lt}
+use lib.ListN.{length, getD, take, replicate}
+use Rattle.laws.proofs.Lists.{first-decide}
+use Rattle.laws.proofs.Tests.{never-both}
 use Rattle.settings.specs.Valid.{validLength, validSettings, vectorBytes, arrayBytes}
 use Rattle.settings.specs.declared.Refusal.{Refusal}
 use Rattle.settings.specs.declared.Refusal.the-variants.{BadSettings, BadLength, ListEnds, BadNumber, TooManyWords, ExtraBytes}
@@ -29,11 +29,7 @@ use Rattle.lamp.specs.Theorems.{EnoughRead, NeverBadLength}
 
 -- the first number of a list stands in its first five bytes
 first-number : (k : ℕ) → 5 < k → (list : List ℕ) → numberAt (take k list) 0 ≡ numberAt list 0
-first-number k h list =
-    by-lt (length list) k
-    (λ (s : length list < k). ap (λ (l : List ℕ). numberAt l 0) (take-all k list (omega arith)))
-    (λ l. sym (number-far (take k list) (drop k list) 0 (omega (arith, length-take-le k list l)))
-    ∙ ap (λ (x : List ℕ). numberAt x 0) (take-append-drop k list))
+first-number k h list = first-decide (λ (l : List ℕ). numberAt l 0) k (λ xs ys (e : length xs ≡ k). number-far xs ys 0 (omega arith)) list
 
 same-lines : (k : ℕ) → longest < k → (list z za report : List ℕ) → linesOf (take k list) z za report ≡ linesOf list z za report
 unfolding linesOf

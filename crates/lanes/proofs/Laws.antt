@@ -11,7 +11,7 @@ use Rattle.lanes.proofs.Integers.{low-lt, low-pos, low-sub-is, low-sub}
 
 -- ---- an answer has the accumulator's width
 
-pub accumulate-lt : (n : ℕ) (subtract : Bool) (a p : ℕ) → accumulate n subtract a p < 2 ^ n
+accumulate-lt : (n : ℕ) (subtract : Bool) (a p : ℕ) → accumulate n subtract a p < 2 ^ n
 unfolding accumulate
 accumulate-lt n subtract a p = low-lt n _
 
@@ -46,7 +46,7 @@ unfoldable pub delta : ℕ → Bool → ℕ → ℕ
 delta n false p = p
 delta n true p = low n (pos zero -ℤ pos p)
 
-pub accumulate-is : (n : ℕ) (subtract : Bool) (a p : ℕ) → accumulate n subtract a p ≡ (a + delta n subtract p) % 2 ^ n
+accumulate-is : (n : ℕ) (subtract : Bool) (a p : ℕ) → accumulate n subtract a p ≡ (a + delta n subtract p) % 2 ^ n
 unfolding accumulate delta
 accumulate-is n false a p = low-pos n (a + p)
 accumulate-is n true a p =

@@ -36,7 +36,7 @@ raise-high m h x em k l =
     ∙ ap negsuc e
     ∙ sym (minus-lt x m l)
 
-pub raised-is : (w : ℕ) (unsigned : Bool) (x : ℕ) → zero < w → x < 2 ^ w
+raised-is : (w : ℕ) (unsigned : Bool) (x : ℕ) → zero < w → x < 2 ^ w
     → pos ((x + raise w unsigned) % 2 ^ w) -ℤ pos (raise w unsigned) ≡ Int w unsigned x
 unfolding Int SInt
 raised-is w true x hw k =
@@ -76,7 +76,7 @@ less-times true true a b h p q ea eb =
     omega (arith, ap₂ (λ (m n : ℕ). m * n) ea eb, ap (λ (n : ℕ). n * a) eb, ap (λ (n : ℕ). n * b) ea)
 
 -- (a - h)(b - h) = ab + hh - h(a + b)
-pub raised-times : (a b h : ℕ) → (pos a -ℤ pos h) *ℤ (pos b -ℤ pos h) ≡ pos (a * b + h * h) -ℤ pos (h * (a + b))
+raised-times : (a b h : ℕ) → (pos a -ℤ pos h) *ℤ (pos b -ℤ pos h) ≡ pos (a * b + h * h) -ℤ pos (h * (a + b))
 raised-times a b h =
     by-less a h (λ s p ea.
     by-less b h (λ t q eb.

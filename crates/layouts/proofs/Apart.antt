@@ -30,7 +30,7 @@ bit-of-part w s k j h =
     ∙ ap (λ (n : ℕ). n % 2) (shr-shr w s j)
 
 -- a word that has the layout has each bit that the layout fixes
-pub fixed-bit : (l : Layout) (w p : ℕ) → matches l w ≡ true → fixedAt l p < 2 → w / 2 ^ p % 2 ≡ fixedAt l p
+fixed-bit : (l : Layout) (w p : ℕ) → matches l w ≡ true → fixedAt l p < 2 → w / 2 ^ p % 2 ≡ fixedAt l p
 fixed-bit [] w p h = λ (f : 2 < 2). absurd (omega arith)
 fixed-bit (bits k x ∷ l) w p h =
     let r = matched (eqb (part w (size l) k) x) l w h in

@@ -50,7 +50,7 @@ one-less : (b k n : ℕ) → 0 < b → n < b ^ suc k → n / b < b ^ k
 one-less b k n some h = div-lt-iff-lt-mul some .1 (rw (pow-suc b k) at h)
 
 -- they read back as a number that has no more
-pub value-digits : (b k n : ℕ) → 1 < b → b ≤ 16 → n < b ^ k → valueOf b (digits b k n) ≡ n
+value-digits : (b k n : ℕ) → 1 < b → b ≤ 16 → n < b ^ k → valueOf b (digits b k n) ≡ n
 unfolding digits
 value-digits b zero n l h f = omega (arith, pow-zero b)
 value-digits b (suc k) n l h f =
@@ -71,12 +71,12 @@ enough (suc j) (suc k) n l h =
     (λ (t : 10 ≤ n). rw (le-ltb n 10 t, enough j k (n / 10) (omega arith) (omega arith)))
 
 -- below 10 there is one digit
-pub decimal-one : (n : ℕ) → n < 10 → decimal n ≡ glyphOf n ∷ []
+decimal-one : (n : ℕ) → n < 10 → decimal n ≡ glyphOf n ∷ []
 unfolding decimal decimalUpTo
 decimal-one n h = rw (mod-eq-of-lt h, lt-ltb n 10 h)
 
 -- from 10 on they are those of n / 10, and the last
-pub decimal-more : (n : ℕ) → 10 ≤ n → decimal n ≡ decimal (n / 10) ++ glyphOf (n % 10) ∷ []
+decimal-more : (n : ℕ) → 10 ≤ n → decimal n ≡ decimal (n / 10) ++ glyphOf (n % 10) ∷ []
 unfolding decimal decimalUpTo
 decimal-more n h = rw (le-ltb n 10 h, enough n (suc (n / 10)) (n / 10) (omega arith) (omega arith))
 
@@ -100,7 +100,7 @@ length-decimal (suc k) n h =
     (λ (t : n < 10). omega (arith, length-one n t))
     (λ (t : 10 ≤ n). omega (arith, length-more n t))
 
-pub some-decimal : (n : ℕ) → 0 < length (decimal n)
+some-decimal : (n : ℕ) → 0 < length (decimal n)
 some-decimal n =
     by-lt n 10
     (λ (t : n < 10). omega (arith, length-one n t))

@@ -5,7 +5,8 @@ use native.Mathlib.Omega.{arith}
 use mathlib.Core.Path.{_≡_, refl, sym, ap, _∙_}
 use mathlib.Core.List.{List, [], _∷_, _++_, append-assoc, append-nil}
 use lib.ListN.{length, getD, set, take, drop, length-append, length-drop, take-append-drop, drop-of-length-le}
-use lib.Seq.{length-take-le, take-length, take-suc, drop-cons, append-snoc, take-take, getD-take, drop-drop, set-at, take-at, drop-at, getD-at, paste}
+use lib.Seq.{length-take-le, take-length, take-suc, drop-cons, append-snoc, take-take, getD-take, set-at, take-at, drop-at, getD-at, paste}
+use Rattle.laws.proofs.Lists.{drop-more}
 use Rattle.lines.specs.Lines.{Wrote, glyphOf, digits}
 use Rattle.lines.proofs.Digits.{length-digits}
 
@@ -18,11 +19,11 @@ starts {at = at} {out = out} w = length-take-le at out (omega arith)
 front : {t : List ℕ} {at r : ℕ} {out out′ : List ℕ} → Wrote t at out out′ r → length (take at out ++ t) ≡ r
 front w = simp length-append (omega (arith, starts w))
 
-pub same-room : {t : List ℕ} {at r : ℕ} {out out′ : List ℕ} → Wrote t at out out′ r → length out′ ≡ length out
+same-room : {t : List ℕ} {at r : ℕ} {out out′ : List ℕ} → Wrote t at out out′ r → length out′ ≡ length out
 same-room w = ap length (w .bytes) ∙ simp (length-append, length-drop) (omega (arith, starts w))
 
 -- what stands before a piece's end; at place 0 it is the piece
-pub before-end : {t : List ℕ} {at r : ℕ} {out out′ : List ℕ} → Wrote t at out out′ r → take r out′ ≡ take at out ++ t
+before-end : {t : List ℕ} {at r : ℕ} {out out′ : List ℕ} → Wrote t at out out′ r → take r out′ ≡ take at out ++ t
 before-end {t} {at} {r} {out} w = ap (take r) (w .bytes) ∙ take-at (take at out ++ t) (drop (at + length t) out) r (front w)
 
 after-end : {t : List ℕ} {at r : ℕ} {out out′ : List ℕ} → Wrote t at out out′ r → drop r out′ ≡ drop r out
@@ -34,7 +35,7 @@ pub and-then : {t u : List ℕ} {at r q : ℕ} {out₀ out₁ out₂ : List ℕ}
 and-then {t} {u} {at} {r} {q} {out₀} {out₁} {out₂} x y =
     let e : r + length u ≡ at + length (t ++ u) = simp length-append (omega arith) in
     let rest : drop (r + length u) out₁ ≡ drop (at + length (t ++ u)) out₀ =
-    sym (drop-drop (length u) r out₁) ∙ ap (drop (length u)) (after-end x) ∙ drop-drop (length u) r out₀ ∙ ap (λ (k : ℕ). drop k out₀) e in
+    drop-more (length u) r out₁ out₀ (after-end x) ∙ ap (λ (k : ℕ). drop k out₀) e in
     record {
       ends = omega arith;
       fits = omega (arith, same-room x);

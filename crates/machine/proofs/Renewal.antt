@@ -35,7 +35,7 @@ register-small {w} v x h = omega (arith, within x 32 w h, v .most)
 pub vector-small : {w : ℕ} → VectorLength w → (x : ℕ) → x < w → x * w + w ≤ 65536
 vector-small {w} v x h = omega (arith, within x w w h, array-small v)
 
-pub two-or-four : {n : ℕ} → (n ≡ 2) ⊎ (n ≡ 4) → 0 < n
+two-or-four : {n : ℕ} → (n ≡ 2) ⊎ (n ≡ 4) → 0 < n
 two-or-four (inl e) = omega arith
 two-or-four (inr e) = omega arith
 

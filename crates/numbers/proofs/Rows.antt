@@ -7,7 +7,8 @@ use native.Mathlib.Omega.{arith}
 use native.Mathlib.Nat.{add-zero, add-suc}
 use native.Mathlib.Numerals.{add-one}
 use lib.ListN.{length, getD, take, drop, set, length-append, length-set, take-append-drop, List·getD-append}
-use lib.Seq.{drop-length, length-take-le, take-suc-set, drop-set-lt, drop-drop}
+use lib.Seq.{drop-length, length-take-le, take-suc-set, drop-set-lt}
+use Rattle.laws.proofs.Lists.{drop-more}
 use Rattle.settings.specs.declared.Refusal.{Refusal}
 use Rattle.settings.specs.declared.Refusal.the-variants.{ListEnds, BadNumber}
 use Rattle.numbers.specs.declared.Read.{Read}
@@ -220,10 +221,6 @@ begin list at out =
       rest = refl;
     }
 
--- after i elements and one more
-drop-one-more : (i : ℕ) (xs ys : List ℕ) → drop i xs ≡ drop i ys → drop (i + 1) xs ≡ drop (i + 1) ys
-drop-one-more i xs ys e = sym (drop-drop 1 i xs) ∙ ap (drop 1) e ∙ drop-drop 1 i ys
-
 -- what the numbers fill in is out itself
 filled-is : (m : Numbers) (i : ℕ) (out₀ out : List ℕ) → i ≤ length out → valuesOf m ≡ take i out → drop i out ≡ drop i out₀ → out ≡ filled m out₀
 unfolding filled
@@ -247,7 +244,7 @@ module _ {list : List ℕ} {at : ℕ} {out₀ out : List ℕ} {due i : ℕ} (f :
         room = simp length-set (omega arith);
         long = simp length-set (f .long);
         so-far = rw (add-one, f .so-far, e, take-suc-set);
-        rest = drop-set-lt (i + 1) out i v (omega arith) ∙ drop-one-more i out out₀ (f .rest);
+        rest = drop-set-lt (i + 1) out i v (omega arith) ∙ drop-more 1 i out out₀ (f .rest);
       }
 
   -- either way out, what was read stands in out, and the rest stays

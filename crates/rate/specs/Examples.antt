@@ -3,15 +3,15 @@ use Prim.Native.Nat.{_-_, _^_}
 use mathlib.Core.Path.{_≡_, refl}
 use Rattle.rate.specs.Rate.{percentOf}
 
-pub all-bits : percentOf 1024 1024 ≡ 100
+all-bits : percentOf 1024 1024 ≡ 100
 all-bits = refl
 
-pub nothing-written : percentOf 0 0 ≡ 0
+nothing-written : percentOf 0 0 ≡ 0
 nothing-written = refl
 
-pub toggled-alone : percentOf 5 0 ≡ 0
+toggled-alone : percentOf 5 0 ≡ 0
 toggled-alone = refl
 
 -- the largest answer: it has more than 32 bits
-pub largest : percentOf (2 ^ 32 - 1) 1 ≡ 429496729500
+largest : percentOf (2 ^ 32 - 1) 1 ≡ 429496729500
 largest = refl

@@ -5,7 +5,8 @@ use native.Mathlib.Omega.{arith}
 use mathlib.Core.Path.{_≡_, refl, sym, ap, ap₂, _∙_}
 use mathlib.Core.List.{List, [], _∷_, _++_, append-assoc, append-nil}
 use lib.ListN.{length, getD, set, take, drop, replicate, length-append, take-append-drop}
-use lib.Seq.{drop-cons, drop-length, drop-drop, length-take-le, take-at, drop-at, sets-eq}
+use lib.Seq.{drop-cons, drop-length, length-take-le, take-at, drop-at, sets-eq}
+use Rattle.laws.proofs.Lists.{drop-more}
 use Rattle.settings.specs.declared.Refusal.{Refusal}
 use Rattle.settings.specs.declared.Settings.{Settings}
 use Rattle.numbers.specs.Numbers.{numbersAt}
@@ -87,10 +88,10 @@ module _ (i : ℕ) (r : Report) (report : List ℕ) (h : 3 * i + 3 ≤ length re
   joined : withThree i r report ≡ (take (3 * i) report ++ three r) ++ drop (3 * i + 3) report
   joined = sym (append-assoc (take (3 * i) report) (three r) (drop (3 * i + 3) report))
 
-  pub take-with : take (3 * (i + 1)) (withThree i r report) ≡ take (3 * i) report ++ three r
+  take-with : take (3 * (i + 1)) (withThree i r report) ≡ take (3 * i) report ++ three r
   take-with = ap (take (3 * (i + 1))) joined ∙ take-at (take (3 * i) report ++ three r) (drop (3 * i + 3) report) (3 * (i + 1)) front
 
-  pub drop-with : drop (3 * (i + 1)) (withThree i r report) ≡ drop (3 * i + 3) report
+  drop-with : drop (3 * (i + 1)) (withThree i r report) ≡ drop (3 * i + 3) report
   drop-with = ap (drop (3 * (i + 1))) joined ∙ drop-at (take (3 * i) report ++ three r) (drop (3 * i + 3) report) (3 * (i + 1)) front
 
   pub stored : set (set (set report (3 * i) (r .0)) (3 * i + 1) (r .1)) (3 * i + 2) (r .2) ≡ withThree i r report
@@ -128,8 +129,7 @@ module _ (s : Settings) (ws : List ℕ) (i : ℕ) (h : i < length ws) (z za z′
     rest-next : drop (3 * (i + 1)) report′ ≡ drop (3 * (i + 1)) report₀
     rest-next =
         let n : 3 * i + 3 ≡ 3 * (i + 1) = omega arith in
-        ap (drop (3 * (i + 1))) e ∙ drop-with i (threeOf r) report room ∙ sym (drop-drop 3 (3 * i) report) ∙ ap (drop 3) (g .rest-as-was)
-        ∙ drop-drop 3 (3 * i) report₀ ∙ ap (λ (m : ℕ). drop m report₀) n
+        ap (drop (3 * (i + 1))) e ∙ drop-with i (threeOf r) report room ∙ drop-more 3 (3 * i) report report₀ (g .rest-as-was) ∙ ap (λ (m : ℕ). drop m report₀) n
 
     tally-next : tallied noTally (runOf (executePaper s) ws z₀ za₀ .reports) ≡ tallied t′ (runOf (executePaper s) (drop (i + 1) ws) z′ za′ .reports)
     unfolding tallied

@@ -27,7 +27,7 @@ fn word_of(line: &[u8]) -> u32 {
 fn number_of(line: &[u8], column: usize) -> u32
     requires { ⌜ column < 12 ⌝ }
 {
-    let at = 9 + 3 * column;
+    let at = stored::COLUMN + 3 * column;
     stored::digit(byte_at(line, at)) * 10 + stored::digit(byte_at(line, at + 1))
 }
 

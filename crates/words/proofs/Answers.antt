@@ -28,7 +28,7 @@ use Rattle.words.proofs.Partners.{partner-turned, partner-back, partner
 
 -- ---- each answer is determined by its promise
 
-pub decoded-known : (r q : Decoded) → decodedSays r ≡ decodedSays q → r ≡ q
+decoded-known : (r q : Decoded) → decodedSays r ≡ decodedSays q → r ≡ q
 decoded-known (Word f) (Word g) e = ap Word (ap (λ (p : ℕ × Fields). p .1) e)
 decoded-known (Word f) (Refused q) e = absurd (refused-not-0 q noFields f (sym e))
 decoded-known (Refused r) (Word g) e = absurd (refused-not-0 r noFields g e)
@@ -38,7 +38,7 @@ decoded-known (Refused r) (Refused q) e = ap Refused (refused-known r q noFields
 pub decode-unique : (s : Settings) (w : ℕ) (r q : Decoded) → decodedSays r ≡ decodePaper s w → decodedSays q ≡ decodePaper s w → r ≡ q
 decode-unique s w r q e g = decoded-known r q (e ∙ sym g)
 
-pub partnered-known : (r q : partnered.Partnered) → partneredSays r ≡ partneredSays q → r ≡ q
+partnered-known : (r q : partnered.Partnered) → partneredSays r ≡ partneredSays q → r ≡ q
 partnered-known (Partner v) (Partner w) e = ap Partner (ap (λ (p : ℕ × ℕ). p .1) e)
 partnered-known (Partner v) (NotPartnered q) e = absurd (refused-not-0 {A = ℕ} q 0 v (sym e))
 partnered-known (NotPartnered r) (Partner w) e = absurd (refused-not-0 {A = ℕ} r 0 w e)

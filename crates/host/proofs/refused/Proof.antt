@@ -12,7 +12,7 @@ answer-of-requires : tie.Need-answer-of-requires
 answer-of-requires c κs = search needs
 
 returns : tie.Need-returns
-returns c = c .answer-of .ensures ∙ ap (λ (n : ℕ). (n, 0)) (c .before .refusal-number .ensures)
+returns c = c .answer-of .ensures ∙ ap (λ (n : ℕ). (n, c .before .before .args .value)) (c .before .refusal-number .ensures)
 
 pub refused-spec : {M : Type 1} → statement M
 refused-spec = tie.close (tie.spec refusal-number-requires answer-of-requires returns)

@@ -1,13 +1,12 @@
 -- `lamp::put_answer` meets its contract. Assumes nothing.
 use Prim.Native.Nat.{ℕ, _*_, _≤_}
 use native.Mathlib.Omega.{arith}
-use mathlib.Core.Path.{_≡_, sym, ap, _∙_}
+use mathlib.Core.Path.{_≡_, sym}
 use lib.ListN.{length, take}
 use lib.Seq.{length-take-le}
 use Rattle.runlist.specs.Plan.{Found, Asked, mostWords, planOf}
-use Rattle.runlist.specs.RunList.{runSays, RunPromise}
+use Rattle.runlist.specs.RunList.{RunPromise}
 use Rattle.runlist.specs.declared.RunAnswer.{RunAnswer}
-use Rattle.runlist.specs.declared.RunAnswer.the-variants.{Ran}
 use Rattle.lines.proofs.Pieces.{said}
 use Rattle.lamp.specs.Lamp.{wordsOf}
 use Rattle.lamp.proofs.Text.{accepted, front, text-ran, text-refused}
@@ -31,12 +30,11 @@ count c = c .count .given .0 .0
 abbrev asked : tie.After-run → Found Asked
 asked c = planOf (entry c .args .list .now) (length (entry c .args .z .now)) (length (entry c .args .za .now)) (length (entry c .args .report .now))
 
-promised : (c : tie.After-count)
-    → RunPromise (entry (ran c) .args .list .now) (entry (ran c) .args .z .now) (entry (ran c) .args .za .now) (entry (ran c) .args .report .now)
-    (Ran (count c) (c .count .given .0 .1 .0)) (ran c .run .last .1 .0) (ran c .run .last .1 .1 .0) (ran c .run .last .1 .1 .1 .0)
-promised c =
-    ap (λ (r : RunAnswer). runSays r (ran c .run .last .1 .0) (ran c .run .last .1 .1 .0) (ran c .run .last .1 .1 .1 .0)) (sym (c .count .given .1))
-    ∙ ran c .run .ensures
+-- what was promised of the run, where its answer is known
+promised : (c : tie.After-run) (a : RunAnswer) → c .run .result ≡ a
+    → RunPromise (entry c .args .list .now) (entry c .args .z .now) (entry c .args .za .now) (entry c .args .report .now) a
+    (c .run .last .1 .0) (c .run .last .1 .1 .0) (c .run .last .1 .1 .1 .0)
+promised c a e = rw (← e) (c .run .ensures)
 
 -- the words stand in front, and they are few enough
 words-there : (c : tie.After-words-again)
@@ -44,7 +42,7 @@ words-there : (c : tie.After-words-again)
     × (count (counted c) ≤ mostWords) × (3 * count (counted c) ≤ length (entry (ran (counted c)) .args .report .now))
 words-there c =
     let r = ran (counted c) in
-    front _ _ _ _ _ _ (accepted _ _ _ _ _ _ _ _ _ (promised (counted c)))
+    front _ _ _ _ _ _ (accepted _ _ _ _ _ _ _ _ _ (promised r _ (counted c .count .given .1)))
     (rw (r .run .kept .1 .0, r .run .kept .1 .1 .0, r .run .kept .1 .1 .1 .0) at (c .words-again .ensures))
 
 as-many : (c : tie.After-words-again) → length (take (count (counted c)) (c .words-again .last .1 .1 .1 .1 .0)) ≡ count (counted c)
@@ -102,8 +100,7 @@ returns c =
     let f = k .before .before .before in
     let r = f .before .before .before .before .before .before .before .before in (
       said (text-refused _ _ _ _ _ _ _ (f .refusal .given .0 .0) (f .refusal .given .0 .1 .0) _
-          (ap (λ (a : RunAnswer). runSays a (r .run .last .1 .0) (r .run .last .1 .1 .0) (r .run .last .1 .1 .1 .0)) (sym (f .refusal .given .1)) ∙ r .run .ensures)
-          (k .refusal-number .ensures)) (w .ensures .0),
+          (promised r _ (f .refusal .given .1)) (k .refusal-number .ensures)) (w .ensures .0),
       w .ensures .1,
     )
 
@@ -126,7 +123,7 @@ returns-2 : tie.Need-returns-2
 returns-2 c =
     let w = c .before .before in
     let x = w .before .before .before .before .before .before in
-    (said (text-ran _ _ _ _ _ _ _ _ _ _ (promised (counted x)) (words-there x .0)) (w .put-ran .ensures .0), w .put-ran .ensures .1)
+    (said (text-ran _ _ _ _ _ _ _ _ _ _ (promised (ran (counted x)) _ (counted x .count .given .1)) (words-there x .0)) (w .put-ran .ensures .0), w .put-ran .ensures .1)
 
 pub put-answer-spec : {M : Type 1} → statement M
 put-answer-spec =

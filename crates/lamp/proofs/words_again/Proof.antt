@@ -6,8 +6,7 @@ use mathlib.Core.List.{List}
 use lib.ListN.{length, take}
 use lib.Seq.{length-take-le}
 use Rattle.runlist.specs.Plan.{settingsOf}
-use Rattle.runlist.specs.Rooms.{frontSays, FrontFits}
-use Rattle.runlist.specs.declared.Front.{Front}
+use Rattle.runlist.specs.Rooms.{frontSays, FrontRead}
 use Rattle.runlist.specs.declared.Front.the-variants.{Words}
 use Rattle.lamp.proofs.Text.{none-again, words-again}
 use borrow.Author.Needs.{needs}
@@ -32,11 +31,7 @@ count c = c .from .given .0 .1 .1 .0
 
 -- the room has a place for each word
 few : (c : tie.After-from) → count c ≤ length (entry (read c) .args .words .now)
-few c =
-    let a = entry (read c) .args in
-    let f : FrontFits (Words (c .from .given .0 .0) (c .from .given .0 .1 .0) (count c)) (length (a .list .now)) (a .z) (a .room) =
-    subst (λ (x : Front). FrontFits x (length (a .list .now)) (a .z) (a .room)) (c .from .given .1) (read c .read-front .ensures .fits) in
-    omega (arith, f .1, entry (read c) .pre)
+few c = omega (arith, subst (FrontRead _ _ _ _ _) (c .from .given .1) (read c .read-front .ensures) .fits .1, entry (read c) .pre)
 
 as-many : (c : tie.After-from) → length (take (count c) (entry (read c) .args .words .now)) ≡ count c
 as-many c = length-take-le _ _ (few c)
@@ -67,7 +62,7 @@ returns c =
     let r = c .before .before .before in
     let a = entry r .args in
     none-again (a .list .now) (a .z) (a .za) (a .room) (settingsOf (head r)) _ _ _
-    (ap (λ (x : Front). frontSays x (settingsOf (head r)) (a .list .now) (a .z)) (sym (c .enum-told .given .1)) ∙ r .read-front .ensures .says)
+    (subst (FrontRead _ _ _ _ _) (c .enum-told .given .1) (r .read-front .ensures) .says)
 
 same-length : tie.Need-same-length
 same-length c = search needs
@@ -80,7 +75,7 @@ returns-2 c =
     let a = entry r .args in
     words-again (a .list .now) (a .z) (a .za) (a .room) (settingsOf (head r)) (b .from .given .0 .0) (b .from .given .0 .1 .0) (length (take (count b) (a .words .now)))
     (ap (λ (n : ℕ). frontSays (Words (b .from .given .0 .0) (b .from .given .0 .1 .0) n) (settingsOf (head r)) (a .list .now) (a .z)) (as-many b)
-    ∙ ap (λ (f : Front). frontSays f (settingsOf (head r)) (a .list .now) (a .z)) (sym (b .from .given .1)) ∙ r .read-front .ensures .says)
+    ∙ subst (FrontRead _ _ _ _ _) (b .from .given .1) (r .read-front .ensures) .says)
     (x .read-to-end .result) _ _ (x .read-to-end .ensures .0)
 
 pub words-again-spec : {M : Type 1} → statement M

@@ -1,6 +1,6 @@
 -- `runlist::clear` meets its contract. The invariant: the first i bytes are 0. Assumes nothing.
 use mathlib.Core.Path.{_≡_, _∙_}
-use Prim.Native.Nat.{_+_, _-_, _<_, _≤_}
+use Prim.Native.Nat.{_-_, _<_, _≤_}
 use native.Mathlib.Omega.{arith}
 use mathlib.Core.List.{_++_, append-nil}
 use borrow.Author.Needs.{needs}

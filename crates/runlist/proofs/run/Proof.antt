@@ -1,16 +1,15 @@
 -- `runlist::run` meets its contract. Assumes nothing.
 use Prim.Native.Nat.{ℕ, _*_, _≤_}
 use native.Mathlib.Omega.{arith}
-use mathlib.Core.Path.{_≡_, sym, ap, ap₂, _∙_, subst}
+use mathlib.Core.Path.{_≡_, sym, ap₂, _∙_, subst}
 use mathlib.Core.List.{List}
 use lib.ListN.{length, take}
 use lib.Seq.{length-take-le}
 use Rattle.settings.specs.declared.Settings.{Settings}
-use Rattle.runlist.specs.Plan.{mostWords, settingsOf, planOf}
+use Rattle.runlist.specs.Plan.{mostWords, planOf}
 use Rattle.machine.specs.Loop.{Ready}
 use Rattle.machine.proofs.Executing.{is-ready}
-use Rattle.runlist.specs.Rooms.{goesOn, frontSays, FrontFits, Settled}
-use Rattle.runlist.specs.declared.Front.{Front}
+use Rattle.runlist.specs.Rooms.{goesOn, FrontRead}
 use Rattle.runlist.specs.declared.Front.the-variants.{Words}
 use Rattle.runlist.proofs.Runs.{refused-run, run-on}
 use borrow.Author.Needs.{needs}
@@ -40,18 +39,17 @@ count c = c .at .given .0 .1 .1 .0
 abbrev head : tie.After-read-front → List ℕ
 head c = c .read-front .last .1 .1 .1 .1 .0
 
-fits : (c : tie.After-at) → FrontFits (Words (place c) (from c) (count c)) (length (entry (read c) .args .list .now)) (length (entry (read c) .args .z .now)) (length (entry (read c) .args .report .now))
-fits c =
-    subst (λ (f : Front). FrontFits f (length (entry (read c) .args .list .now)) (length (entry (read c) .args .z .now)) (length (entry (read c) .args .report .now)))
-    (c .at .given .1) (read c .read-front .ensures .fits)
+-- what was promised of them, where words follow
+known : (c : tie.After-at)
+    → FrontRead (entry (read c) .args .list .now) (length (entry (read c) .args .z .now)) (length (entry (read c) .args .za .now))
+    (length (entry (read c) .args .report .now)) (head (read c)) (Words (place c) (from c) (count c))
+known c = subst (FrontRead _ _ _ _ _) (c .at .given .1) (read c .read-front .ensures)
 
 -- Z and ZA are as long as the settings ask for
 ready : (c : tie.After-settings-of) → Ready (c .settings-of .result) (entry (read (settled c)) .args .z .now) (entry (read (settled c)) .args .za .now)
 ready c =
-    let g = settled c in
-    let a = entry (read g) .args in
-    let so : Settled (Words (place g) (from g) (count g)) (settingsOf (head (read g))) (length (a .z .now)) (length (a .za .now)) =
-    subst (λ (f : Front). Settled f (settingsOf (head (read g))) (length (a .z .now)) (length (a .za .now))) (g .at .given .1) (read g .read-front .ensures .settled) in
+    let a = entry (read (settled c)) .args in
+    let so = known (settled c) .settled in
     subst (λ (s : Settings). Ready s (a .z .now) (a .za .now)) (sym (c .settings-of .ensures)) (is-ready _ _ _ (so .0) (so .1))
 
 -- a room of n words makes up the plan, where n is the count
@@ -61,9 +59,7 @@ planned : (c : tie.After-settings-of) (n : ℕ) → n ≡ count (settled c)
 planned c n e =
     let g = settled c in
     let a = entry (read g) .args in
-    ap₂ (λ (s : Settings) (m : ℕ). goesOn s (a .list .now) (place g) (length (a .z .now)) (from g) m) (c .settings-of .ensures) e
-    ∙ ap (λ (f : Front). frontSays f (settingsOf (head (read g))) (a .list .now) (length (a .z .now))) (sym (g .at .given .1))
-    ∙ read g .read-front .ensures .says
+    ap₂ (λ (s : Settings) (m : ℕ). goesOn s (a .list .now) (place g) (length (a .z .now)) (from g) m) (c .settings-of .ensures) e ∙ known g .says
 
 -- the first n places of a room are as many
 fit : (n report : ℕ) (room : List ℕ) → n ≤ length room → n ≤ mostWords → 3 * n ≤ report → (length (take n room) ≤ mostWords) × (3 * length (take n room) ≤ report)
@@ -96,7 +92,7 @@ slice-aggregate-run-words c = sym (length-take-le _ _ (c .before .if1 .taken))
 run-words-requires : tie.Need-run-words-requires
 run-words-requires c κs =
     let t = c .before .before .before .before in
-    let f = fits (settled (t .before)) in
+    let f = known (settled (t .before)) .fits in
     ((ready (t .before), f .0), fit _ _ _ (t .if1 .taken) (f .1) (f .2))
 
 same-length : tie.Need-same-length
@@ -119,15 +115,15 @@ returns c =
     (planned s _ (length-take-le _ _ (t .if1 .taken))) (x .run-words .ensures)
 
 array-borrow-prefix-words : tie.Need-array-borrow-prefix-words
-array-borrow-prefix-words c = fits (settled (c .before)) .1
+array-borrow-prefix-words c = known (settled (c .before)) .fits .1
 
 slice-aggregate-run-words-2 : tie.Need-slice-aggregate-run-words-2
-slice-aggregate-run-words-2 c = sym (length-take-le _ _ (fits (settled (c .before .before)) .1))
+slice-aggregate-run-words-2 c = sym (length-take-le _ _ (known (settled (c .before .before)) .fits .1))
 
 run-words-requires-2 : tie.Need-run-words-requires-2
 run-words-requires-2 c κs =
     let s = c .before .before .before .before .before in
-    let f = fits (settled s) in
+    let f = known (settled s) .fits in
     ((ready s, f .0), fit _ _ _ (f .1) (f .1) (f .2))
 
 returns-2 : tie.Need-returns-2
@@ -135,7 +131,7 @@ returns-2 c =
     let r = c .before .before .before .before in
     let a = entry r .args in
     refused-run (a .list .now) (a .z .now) (a .za .now) (a .report .now) _ _
-    (ap (λ (f : Front). frontSays f (settingsOf (head r)) (a .list .now) (length (a .z .now))) (sym (c .before .refusal .given .1)) ∙ r .read-front .ensures .says)
+    (subst (FrontRead _ _ _ _ _) (c .before .refusal .given .1) (r .read-front .ensures) .says)
 
 same-length-4 : tie.Need-same-length-4
 same-length-4 c = search needs
@@ -153,7 +149,7 @@ returns-3 c =
     let a = entry (read (settled s)) .args in
     let l = x .run-words2 .last .1 .1 .1 .1 .1 in
     run-on (a .list .now) (a .z .now) (a .za .now) (a .report .now) _ (x .run-words2 .result) (l .0) (l .1 .0) (l .1 .1 .0)
-    (planned s _ (length-take-le _ _ (fits (settled s) .1))) (x .run-words2 .ensures)
+    (planned s _ (length-take-le _ _ (known (settled s) .fits .1))) (x .run-words2 .ensures)
 
 pub run-spec : {M : Type 1} → statement M
 run-spec =

@@ -1,7 +1,6 @@
 -- `stored::state_at` meets its contract. Assumes nothing.
-use mathlib.Core.Path.{sym, ap, _∙_}
-use mathlib.Core.Bool.{Bool, cond}
-use Rattle.stored.specs.Contents.{nextState}
+use mathlib.Core.Path.{refl}
+use Rattle.laws.proofs.Tests.{cond-yes, cond-no}
 use borrow.Author.Needs.{needs}
 use Rattle.stored.proofs.state_at.Statement.{statement}
 use Rattle.stored.proofs.state_at.Tie as tie
@@ -10,14 +9,10 @@ next-state-requires : tie.Need-next-state-requires
 next-state-requires c κs = search needs
 
 returns : tie.Need-returns
-returns c =
-    let x = c .before .before .args .state in
-    c .next-state .ensures ∙ ap (λ (t : Bool). cond t (nextState x) x) (sym (c .before .if1 .taken))
+returns c = cond-yes _ _ _ _ (c .before .if1 .taken) (c .next-state .ensures)
 
 returns-2 : tie.Need-returns-2
-returns-2 c =
-    let x = c .before .args .state in
-    ap (λ (t : Bool). cond t (nextState x) x) (sym (c .if1 .left))
+returns-2 c = cond-no _ _ _ _ (c .if1 .left) refl
 
 pub state-at-spec : {M : Type 1} → statement M
 state-at-spec = tie.close (tie.spec next-state-requires returns returns-2)
