@@ -94,21 +94,28 @@ enum {
 };
 
 /* What a word says.
- *   fields  accepted: the word's fields
+ *   settings  as above
+ *   word      any number: the word
+ *   fields    accepted: the word's fields
  * Refused with 1; 3 where no layout matches the word, its size is reserved, or the settings lack a feature. */
 uint64_t callinglamp_decode(const uint32_t settings[7], uint32_t word, uint32_t fields[12]);
 
 /* The word that has just these fields. It is the answer's value.
- *   fields  any numbers; those that are no fields (family not 1 to 5, unsigned or subtract above 1) belong to no word
+ *   settings  as above
+ *   fields    any numbers; those that are no fields (family not 1 to 5, unsigned or subtract above 1) belong to no word
  * Refused with 1; 5 where no word of the family's layout has exactly these fields, a field that the family lacks
  * included; 3 where the settings lack a feature. */
 uint64_t callinglamp_encode(const uint32_t settings[7], const uint32_t fields[12]);
 
 /* The word with S flipped: the same word, but that it subtracts where the other adds. It is the answer's value.
+ *   settings  as above
+ *   word      any number: the word
  * Refused with 1; 3 as in decode; 6 where the word is of family C. */
 uint64_t callinglamp_partner(const uint32_t settings[7], uint32_t word);
 
 /* Runs one word.
+ *   settings       as above
+ *   word           any number: the word
  *   z, z_length    Z: 32 registers of VL/8 bytes, 32 * VL/8 bytes in all
  *   za, za_length  ZA: VL/8 vectors of VL/8 bytes
  *   counts         accepted: toggled, the number of bits of Z and ZA that changed, and written
@@ -117,7 +124,9 @@ uint64_t callinglamp_partner(const uint32_t settings[7], uint32_t word);
 uint64_t callinglamp_execute(const uint32_t settings[7], uint32_t word, uint8_t *z, size_t z_length, uint8_t *za,
                              size_t za_length, uint32_t counts[2]);
 
-/* 100 * toggled / written, rounded down; 0 where written is 0. It is never refused, and its answer is the number. */
+/* 100 * toggled / written, rounded down; 0 where written is 0. It is never refused, and its answer is the number.
+ *   toggled  any number; it may be the larger
+ *   written  any number */
 uint64_t callinglamp_percent(uint32_t toggled, uint32_t written);
 
 /* A list has at most so many words, and a report of three times as many numbers is long enough for any list. */
