@@ -150,6 +150,7 @@ fn read_rest(list: &[u8], z: usize, za: usize, room: usize, settings: Settings, 
 pub fn read_front(list: &[u8], z: usize, za: usize, room: usize, head: &mut [u32]) -> Front
     requires { ⌜ length (now head) ≡ 7 ⌝ }
     ensures { λ r. ⌜ FrontRead (now (list .entry)) z za room (now (head .exit)) r ⌝ }
+    ensures { λ r. ⌜ now (head .exit) ≡ filled (numbersAt (now (list .entry)) 0 7) (now (head .entry)) ⌝ }
 {
     match numbers::read_numbers(list, 0, head) {
         Row::Fault { refusal, place } => Front::Refused {

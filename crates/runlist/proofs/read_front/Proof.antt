@@ -1,10 +1,10 @@
 -- `runlist::read_front` meets its contract. Assumes nothing.
 use Prim.Native.Nat.{ℕ}
 use native.Mathlib.Omega.{arith}
-use mathlib.Core.Path.{_≡_, sym, _∙_}
+use mathlib.Core.Path.{_≡_, sym, ap, _∙_}
 use mathlib.Core.List.{List}
 use lib.ListN.{length}
-use Rattle.numbers.specs.Numbers.{numbersAt, rowOf}
+use Rattle.numbers.specs.Numbers.{numbersAt, rowOf, filled}
 use Rattle.numbers.specs.declared.Row.the-variants.{Next}
 use Rattle.runlist.proofs.Plans.{whole-inside, no-head, headed-by}
 use borrow.Author.Needs.{needs}
@@ -27,6 +27,10 @@ ended c = c .before .before .before
 -- all seven numbers were read
 row-ended : (c : tie.After-next) → rowOf (numbersAt (list (read c)) 0 (length (entry (read c) .args .head .now))) ≡ Next (c .next .given .0 .0)
 row-ended c = sym (read c .read-numbers .ensures .0) ∙ c .next .given .1
+
+-- and what they leave in their room
+seven-filled : (c : tie.After-read-numbers) → c .read-numbers .last .1 .1 .0 ≡ filled (numbersAt (list c) 0 7) (entry c .args .head .now)
+seven-filled c = c .read-numbers .ensures .1 ∙ ap (λ (n : ℕ). filled (numbersAt (list c) 0 n) (entry c .args .head .now)) (entry c .pre)
 
 read-numbers-requires : tie.Need-read-numbers-requires
 read-numbers-requires c κs = search needs
@@ -51,7 +55,8 @@ same-length c = search needs
 returns : tie.Need-returns
 returns c =
     let r = c .before .before .before .before .before in
-    no-head (list r) _ _ _ (entry r .args .head .now) _ (entry r .pre) (r .read-numbers .ensures .1) _ _ (sym (r .read-numbers .ensures .0) ∙ c .before .refusal .given .1)
+    let e = r .read-numbers .ensures in
+    (no-head (list r) _ _ _ (entry r .args .head .now) _ (entry r .pre) (e .1) _ _ (sym (e .0) ∙ c .before .refusal .given .1), seven-filled r)
 
 same-length-2 : tie.Need-same-length-2
 same-length-2 c = search needs
@@ -60,8 +65,10 @@ returns-2 : tie.Need-returns-2
 returns-2 c =
     let s = c .before in
     let n = ended s in
-    let r = read n in
-    headed-by (list r) _ _ _ (entry r .args .head .now) _ (entry r .pre) (r .read-numbers .ensures .1) _ _ _ (row-ended n) (s .settings-of .ensures) (c .read-rest .ensures)
+    let r = read n in (
+      headed-by (list r) _ _ _ (entry r .args .head .now) _ (entry r .pre) (r .read-numbers .ensures .1) _ _ _ (row-ended n) (s .settings-of .ensures) (c .read-rest .ensures),
+      seven-filled r,
+    )
 
 pub read-front-spec : {M : Type 1} → statement M
 read-front-spec =

@@ -43,7 +43,7 @@ head c = c .read-front .last .1 .1 .1 .1 .0
 known : (c : tie.After-at)
     → FrontRead (entry (read c) .args .list .now) (length (entry (read c) .args .z .now)) (length (entry (read c) .args .za .now))
     (length (entry (read c) .args .report .now)) (head (read c)) (Words (place c) (from c) (count c))
-known c = subst (FrontRead _ _ _ _ _) (c .at .given .1) (read c .read-front .ensures)
+known c = subst (FrontRead _ _ _ _ _) (c .at .given .1) (read c .read-front .ensures .0)
 
 -- Z and ZA are as long as the settings ask for
 ready : (c : tie.After-settings-of) → Ready (c .settings-of .result) (entry (read (settled c)) .args .z .now) (entry (read (settled c)) .args .za .now)
@@ -131,7 +131,7 @@ returns-2 c =
     let r = c .before .before .before .before in
     let a = entry r .args in
     refused-run (a .list .now) (a .z .now) (a .za .now) (a .report .now) _ _
-    (subst (FrontRead _ _ _ _ _) (c .before .refusal .given .1) (r .read-front .ensures) .says)
+    (subst (FrontRead _ _ _ _ _) (c .before .refusal .given .1) (r .read-front .ensures .0) .says)
 
 same-length-4 : tie.Need-same-length-4
 same-length-4 c = search needs
