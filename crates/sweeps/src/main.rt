@@ -342,18 +342,10 @@ fn sum_of(sweep: &[u8], column: usize) -> u64
 }
 
 // Ends the line of a sweep that is all there, and answers how many sweeps are wrong: 0 or 1. A sweep of no words makes
-// no call of the library, and shows nothing. Where there is a fault, the sums are those that are due.
-fn wrong_in(
-    settings: Settings,
-    sweep: &[u8],
-    z_room: &mut [u8],
-    za_room: &mut [u8],
-    z_due_room: &mut [u8],
-    za_due_room: &mut [u8],
-) -> usize
+// no call of the library, and shows nothing. Where there is a fault, the sums are those that are due. The rooms have as
+// many bytes as the longest Z and ZA.
+fn wrong_in(settings: Settings, sweep: &[u8]) -> usize
     requires { ⌜ validSettings settings ≡ true ⌝ }
-    requires { do ⌜ ((← ⟦z_room.len()⟧) ≡ 2048) × ((← ⟦za_room.len()⟧) ≡ 4096) ⌝ }
-    requires { do ⌜ ((← ⟦z_due_room.len()⟧) ≡ 2048) × ((← ⟦za_due_room.len()⟧) ≡ 4096) ⌝ }
     ensures { λ r. ⌜ r < 2 ⌝ }
 {
     if count_of(sweep) == 0 {
@@ -364,6 +356,10 @@ fn wrong_in(
     print_number(b", written ", sum_of(sweep, WRITTEN));
     let z = z_length(settings);
     let za = za_length(settings);
+    let mut z_room = [0u8; 2048];
+    let mut za_room = [0u8; 4096];
+    let mut z_due_room = [0u8; 2048];
+    let mut za_due_room = [0u8; 4096];
     wrong_there_or_back(
         settings,
         sweep,
@@ -400,17 +396,8 @@ fn print_head(number: usize, vl: u32, count: u32) {
 }
 
 // Prints the line of the sweep with which the list begins. Its settings say how long it is, so they are tested first.
-fn check_sweep(
-    list: &[u8],
-    number: usize,
-    z_room: &mut [u8],
-    za_room: &mut [u8],
-    z_due_room: &mut [u8],
-    za_due_room: &mut [u8],
-) -> Checked
+fn check_sweep(list: &[u8], number: usize) -> Checked
     requires { do ⌜ 0 < (← ⟦list.len()⟧) ⌝ }
-    requires { do ⌜ ((← ⟦z_room.len()⟧) ≡ 2048) × ((← ⟦za_room.len()⟧) ≡ 4096) ⌝ }
-    requires { do ⌜ ((← ⟦z_due_room.len()⟧) ≡ 2048) × ((← ⟦za_due_room.len()⟧) ≡ 4096) ⌝ }
     ensures { λ r. do ⌜ (0 < r .bytes) × (r .bytes ≤ (← ⟦list.len()⟧ .entry)) × (r .words ≤ r .bytes) × (r .wrong < 2) ⌝ }
 {
     let settings = stored::settings_of(list);
@@ -425,7 +412,7 @@ fn check_sweep(
     }
     let bytes = stored::COLUMN * columns;
     let sweep = &list[..bytes];
-    let wrong = wrong_in(settings, sweep, z_room, za_room, z_due_room, za_due_room);
+    let wrong = wrong_in(settings, sweep);
     Checked {
         words: count as usize,
         bytes: bytes,
@@ -441,30 +428,14 @@ fn print_counts(sweeps: usize, words: usize, wrong: usize) {
 }
 
 // Goes through each sweep, and then says how many there were.
-fn check_list(
-    list: &[u8],
-    z_room: &mut [u8],
-    za_room: &mut [u8],
-    z_due_room: &mut [u8],
-    za_due_room: &mut [u8],
-)
-    requires { do ⌜ ((← ⟦z_room.len()⟧) ≡ 2048) × ((← ⟦za_room.len()⟧) ≡ 4096) ⌝ }
-    requires { do ⌜ ((← ⟦z_due_room.len()⟧) ≡ 2048) × ((← ⟦za_due_room.len()⟧) ≡ 4096) ⌝ }
-{
+fn check_list(list: &[u8]) {
     let mut at = 0;
     let mut sweeps = 0;
     let mut words = 0;
     let mut wrong = 0;
     while at < list.len() {
         sweeps += 1;
-        let checked = check_sweep(
-            &list[at..],
-            sweeps,
-            z_room,
-            za_room,
-            z_due_room,
-            za_due_room,
-        );
+        let checked = check_sweep(&list[at..], sweeps);
         words += checked.words;
         at += checked.bytes;
         wrong += checked.wrong;
@@ -472,20 +443,9 @@ fn check_list(
     print_counts(sweeps, words, wrong);
 }
 
-// The rooms have as many bytes as the longest Z and ZA. The buffer is larger than the file. A longer file would be cut
-// short, and the counts would show it.
+// The buffer is larger than the file. A longer file would be cut short, and the counts would show it.
 fn main() {
     let mut input = [0u8; 524288];
-    let mut z_room = [0u8; 2048];
-    let mut za_room = [0u8; 4096];
-    let mut z_due_room = [0u8; 2048];
-    let mut za_due_room = [0u8; 4096];
     let got = io::read_full(0, &mut input);
-    check_list(
-        &input[..got],
-        &mut z_room,
-        &mut za_room,
-        &mut z_due_room,
-        &mut za_due_room,
-    );
+    check_list(&input[..got]);
 }

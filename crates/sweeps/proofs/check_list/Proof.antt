@@ -1,6 +1,5 @@
--- `sweeps::check_list` is safe and ends, and keeps the lengths of the rooms. A turn passes at least one byte and counts one sweep, and no
+-- `sweeps::check_list` is safe and ends. A turn passes at least one byte and counts one sweep, and no
 -- more words than it passes bytes, so no count exceeds the place in the list. The measure is what is left of the list. Assumes nothing.
-use mathlib.Core.Path.{_≡_}
 use Prim.Native.Nat.{_≤_, _-_}
 use borrow.Author.Needs.{needs}
 use lib.ListN.{length}
@@ -8,14 +7,10 @@ use Rattle.sweeps.proofs.check_list.Statement.{statement}
 use Rattle.sweeps.proofs.check_list.Tie as tie
 
 abbrev Inv-loop : tie.InvT-loop
-Inv-loop list z-room₀ za-room₀ z-due-room₀ za-due-room₀ at₀ sweeps₀ words₀ wrong₀ z-room za-room z-due-room za-due-room at sweeps words wrong =
-    (at ≤ length list) × (sweeps ≤ at) × (words ≤ at) × (wrong ≤ sweeps)
-    × (length z-room ≡ length z-room₀) × (length za-room ≡ length za-room₀)
-    × (length z-due-room ≡ length z-due-room₀) × (length za-due-room ≡ length za-due-room₀)
+Inv-loop list at₀ sweeps₀ words₀ wrong₀ at sweeps words wrong = (at ≤ length list) × (sweeps ≤ at) × (words ≤ at) × (wrong ≤ sweeps)
 
 abbrev μ-loop : tie.MeasureT-loop
-μ-loop list z-room₀ za-room₀ z-due-room₀ za-due-room₀ at₀ sweeps₀ words₀ wrong₀ z-room za-room z-due-room za-due-room at sweeps words wrong =
-    length list - at
+μ-loop list at₀ sweeps₀ words₀ wrong₀ at sweeps words wrong = length list - at
 
 loop-holds : tie.Need-loop-holds Inv-loop μ-loop
 loop-holds c = search needs
@@ -53,18 +48,6 @@ loop-again c = search needs
 print-counts-requires : tie.Need-print-counts-requires Inv-loop μ-loop
 print-counts-requires c κs = search needs
 
-same-length : tie.Need-same-length Inv-loop μ-loop
-same-length c = search needs
-
-same-length-2 : tie.Need-same-length-2 Inv-loop μ-loop
-same-length-2 c = search needs
-
-same-length-3 : tie.Need-same-length-3 Inv-loop μ-loop
-same-length-3 c = search needs
-
-same-length-4 : tie.Need-same-length-4 Inv-loop μ-loop
-same-length-4 c = search needs
-
 returns : tie.Need-returns Inv-loop μ-loop
 returns c = search needs
 
@@ -86,8 +69,4 @@ check-list-spec =
     loop-less
     loop-again
     print-counts-requires
-    same-length
-    same-length-2
-    same-length-3
-    same-length-4
     returns)

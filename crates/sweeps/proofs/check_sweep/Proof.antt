@@ -1,5 +1,4 @@
--- `sweeps::check_sweep` meets its contract, and keeps the lengths of the rooms. The slice that it lends has the sweep's columns, which the list
--- has. Assumes nothing.
+-- `sweeps::check_sweep` meets its contract. The slice that it lends has the sweep's columns, which the list has. Assumes nothing.
 use mathlib.Core.Path.{sym, _∙_}
 use lib.Seq.{length-take-le}
 use borrow.Author.Needs.{needs}
@@ -48,23 +47,11 @@ slice-aggregate-sweep c = sym (length-take-le _ _ (search needs))
 
 wrong-in-requires : tie.Need-wrong-in-requires
 wrong-in-requires c κs =
-    let i = c .before .before .before .before .before .before .before in
-    search (needs, sym (i .before .valid .ensures) ∙ not-false _ (i .if1 .left))
+    let i = c .before .before .before in
+    sym (i .before .valid .ensures) ∙ not-false _ (i .if1 .left)
 
-cast-t20 : tie.Need-cast-t20
-cast-t20 c = search needs
-
-same-length : tie.Need-same-length
-same-length c = search needs
-
-same-length-2 : tie.Need-same-length-2
-same-length-2 c = search needs
-
-same-length-3 : tie.Need-same-length-3
-same-length-3 c = search needs
-
-same-length-4 : tie.Need-same-length-4
-same-length-4 c = search needs
+cast-t16 : tie.Need-cast-t16
+cast-t16 c = search needs
 
 returns-3 : tie.Need-returns-3
 returns-3 c = search needs
@@ -87,9 +74,5 @@ check-sweep-spec =
     mul-bytes
     slice-aggregate-sweep
     wrong-in-requires
-    cast-t20
-    same-length
-    same-length-2
-    same-length-3
-    same-length-4
+    cast-t16
     returns-3)

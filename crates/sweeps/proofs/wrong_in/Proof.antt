@@ -1,5 +1,4 @@
--- `sweeps::wrong_in` meets its contract, and keeps the lengths of the rooms. The parts that it lends are as long as it says, since Z and ZA
--- are no longer than the rooms. Assumes nothing.
+-- `sweeps::wrong_in` meets its contract. The parts that it lends are as long as it says, since Z and ZA are no longer than the rooms. Assumes nothing.
 use mathlib.Core.Path.{sym}
 use lib.Seq.{length-take-le}
 use borrow.Author.Needs.{needs}
@@ -42,44 +41,32 @@ z-length-requires c κs = search needs
 za-length-requires : tie.Need-za-length-requires
 za-length-requires c κs = search needs
 
-slice-relend-prefix-wrong-there-or-back : tie.Need-slice-relend-prefix-wrong-there-or-back
-slice-relend-prefix-wrong-there-or-back c = search needs
+array-borrow-prefix-z-room : tie.Need-array-borrow-prefix-z-room
+array-borrow-prefix-z-room c = search needs
 
 slice-aggregate-wrong-there-or-back : tie.Need-slice-aggregate-wrong-there-or-back
 slice-aggregate-wrong-there-or-back c = sym (length-take-le _ _ (search needs))
 
-slice-relend-prefix-wrong-there-or-back-2 : tie.Need-slice-relend-prefix-wrong-there-or-back-2
-slice-relend-prefix-wrong-there-or-back-2 c = search needs
+array-borrow-prefix-za-room : tie.Need-array-borrow-prefix-za-room
+array-borrow-prefix-za-room c = search needs
 
 slice-aggregate-wrong-there-or-back-2 : tie.Need-slice-aggregate-wrong-there-or-back-2
 slice-aggregate-wrong-there-or-back-2 c = sym (length-take-le _ _ (search needs))
 
-slice-relend-prefix-wrong-there-or-back-3 : tie.Need-slice-relend-prefix-wrong-there-or-back-3
-slice-relend-prefix-wrong-there-or-back-3 c = search needs
+array-borrow-prefix-z-due-room : tie.Need-array-borrow-prefix-z-due-room
+array-borrow-prefix-z-due-room c = search needs
 
 slice-aggregate-wrong-there-or-back-3 : tie.Need-slice-aggregate-wrong-there-or-back-3
 slice-aggregate-wrong-there-or-back-3 c = sym (length-take-le _ _ (search needs))
 
-slice-relend-prefix-wrong-there-or-back-4 : tie.Need-slice-relend-prefix-wrong-there-or-back-4
-slice-relend-prefix-wrong-there-or-back-4 c = search needs
+array-borrow-prefix-za-due-room : tie.Need-array-borrow-prefix-za-due-room
+array-borrow-prefix-za-due-room c = search needs
 
 slice-aggregate-wrong-there-or-back-4 : tie.Need-slice-aggregate-wrong-there-or-back-4
 slice-aggregate-wrong-there-or-back-4 c = sym (length-take-le _ _ (search needs))
 
 wrong-there-or-back-requires : tie.Need-wrong-there-or-back-requires
 wrong-there-or-back-requires c κs = search needs
-
-same-length : tie.Need-same-length
-same-length c = search needs
-
-same-length-2 : tie.Need-same-length-2
-same-length-2 c = search needs
-
-same-length-3 : tie.Need-same-length-3
-same-length-3 c = search needs
-
-same-length-4 : tie.Need-same-length-4
-same-length-4 c = search needs
 
 returns-2 : tie.Need-returns-2
 returns-2 c = search needs
@@ -100,17 +87,13 @@ wrong-in-spec =
     print-number-requires-2
     z-length-requires
     za-length-requires
-    slice-relend-prefix-wrong-there-or-back
+    array-borrow-prefix-z-room
     slice-aggregate-wrong-there-or-back
-    slice-relend-prefix-wrong-there-or-back-2
+    array-borrow-prefix-za-room
     slice-aggregate-wrong-there-or-back-2
-    slice-relend-prefix-wrong-there-or-back-3
+    array-borrow-prefix-z-due-room
     slice-aggregate-wrong-there-or-back-3
-    slice-relend-prefix-wrong-there-or-back-4
+    array-borrow-prefix-za-due-room
     slice-aggregate-wrong-there-or-back-4
     wrong-there-or-back-requires
-    same-length
-    same-length-2
-    same-length-3
-    same-length-4
     returns-2)
