@@ -3,6 +3,7 @@
 ghost use mathlib.Core.Path.{_≡_};
 ghost use mathlib.Core.Bool.{true};
 ghost use Prim.Native.Nat.{_+_, _*_, _≤_, _<_};
+ghost use lib.ListN.{length};
 ghost use Rattle.settings.specs.Valid.{validSettings};
 ghost use Rattle.machine.specs.Execute.{executedSays};
 ghost use Rattle.demands.specs.Sweep.{undoPaper};
@@ -242,39 +243,48 @@ fn undo_all(settings: Settings, sweep: &[u8], z: &mut [u8], za: &mut [u8]) -> Fa
     Fault::Nothing
 }
 
-// The way there, and Z and ZA held to the stored end.
-fn there(
-    settings: Settings,
-    sweep: &[u8],
-    z: &mut [u8],
-    za: &mut [u8],
-    z_due: &mut [u8],
-    za_due: &mut [u8],
-) -> Fault {
+// Z and ZA as they are due at the end of a way: at the sweep's end, or at its start again.
+fn make_due(sweep: &[u8], at_end: bool, z: &mut [u8], za: &mut [u8]) {
+    if at_end {
+        read_end(sweep, z, za);
+    } else {
+        fill_start(sweep, z, za);
+    }
+}
+
+// Holds Z and ZA to the due ones, for which the rooms have as many bytes as the longest Z and ZA.
+fn ended(sweep: &[u8], at_end: bool, z: &[u8], za: &[u8]) -> Fault
+    requires { ⌜ (length (now z) ≤ 2048) × (length (now za) ≤ 4096) ⌝ }
+{
+    let mut z_room = [0u8; 2048];
+    let mut za_room = [0u8; 4096];
+    let z_due = &mut z_room[..z.len()];
+    let za_due = &mut za_room[..za.len()];
+    make_due(sweep, at_end, z_due, za_due);
+    compared(z, za, z_due, za_due)
+}
+
+// The way there, to the stored end.
+fn there(settings: Settings, sweep: &[u8], z: &mut [u8], za: &mut [u8]) -> Fault
+    requires { ⌜ (length (now z) ≤ 2048) × (length (now za) ≤ 4096) ⌝ }
+{
     fill_start(sweep, z, za);
     let fault = go_all(settings, sweep, z, za);
     if is_fault(fault) {
         return fault;
     }
-    read_end(sweep, z_due, za_due);
-    compared(z, za, z_due, za_due)
+    ended(sweep, true, z, za)
 }
 
-// The way back, and Z and ZA held to the start, which is made again in the due rooms.
-fn back(
-    settings: Settings,
-    sweep: &[u8],
-    z: &mut [u8],
-    za: &mut [u8],
-    z_due: &mut [u8],
-    za_due: &mut [u8],
-) -> Fault {
+// The way back, to the start.
+fn back(settings: Settings, sweep: &[u8], z: &mut [u8], za: &mut [u8]) -> Fault
+    requires { ⌜ (length (now z) ≤ 2048) × (length (now za) ≤ 4096) ⌝ }
+{
     let fault = undo_all(settings, sweep, z, za);
     if is_fault(fault) {
         return fault;
     }
-    fill_start(sweep, z_due, za_due);
-    compared(z, za, z_due, za_due)
+    ended(sweep, false, z, za)
 }
 
 fn print_number(before: &[u8], number: u64) {
@@ -303,22 +313,16 @@ fn print_fault(way: &[u8], fault: Fault) {
 }
 
 // Goes there and back, and says how it went. Answers how many sweeps are wrong: 0 or 1.
-fn wrong_there_or_back(
-    settings: Settings,
-    sweep: &[u8],
-    z: &mut [u8],
-    za: &mut [u8],
-    z_due: &mut [u8],
-    za_due: &mut [u8],
-) -> usize
+fn wrong_there_or_back(settings: Settings, sweep: &[u8], z: &mut [u8], za: &mut [u8]) -> usize
+    requires { ⌜ (length (now z) ≤ 2048) × (length (now za) ≤ 4096) ⌝ }
     ensures { λ r. ⌜ r < 2 ⌝ }
 {
-    let fault_there = there(settings, sweep, z, za, z_due, za_due);
+    let fault_there = there(settings, sweep, z, za);
     if is_fault(fault_there) {
         print_fault(b"there", fault_there);
         return 1;
     }
-    let fault_back = back(settings, sweep, z, za, z_due, za_due);
+    let fault_back = back(settings, sweep, z, za);
     if is_fault(fault_back) {
         print_fault(b"back", fault_back);
         return 1;
@@ -342,8 +346,7 @@ fn sum_of(sweep: &[u8], column: usize) -> u64
 }
 
 // Ends the line of a sweep that is all there, and answers how many sweeps are wrong: 0 or 1. A sweep of no words makes
-// no call of the library, and shows nothing. Where there is a fault, the sums are those that are due. The rooms have as
-// many bytes as the longest Z and ZA.
+// no call of the library, and shows nothing. Where there is a fault, the sums are those that are due.
 fn wrong_in(settings: Settings, sweep: &[u8]) -> usize
     requires { ⌜ validSettings settings ≡ true ⌝ }
     ensures { λ r. ⌜ r < 2 ⌝ }
@@ -358,16 +361,7 @@ fn wrong_in(settings: Settings, sweep: &[u8]) -> usize
     let za = za_length(settings);
     let mut z_room = [0u8; 2048];
     let mut za_room = [0u8; 4096];
-    let mut z_due_room = [0u8; 2048];
-    let mut za_due_room = [0u8; 4096];
-    wrong_there_or_back(
-        settings,
-        sweep,
-        &mut z_room[..z],
-        &mut za_room[..za],
-        &mut z_due_room[..z],
-        &mut za_due_room[..za],
-    )
+    wrong_there_or_back(settings, sweep, &mut z_room[..z], &mut za_room[..za])
 }
 
 // What a sweep adds to the counts, and how many bytes of the list are its own.

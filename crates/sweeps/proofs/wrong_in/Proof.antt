@@ -1,9 +1,18 @@
 -- `sweeps::wrong_in` meets its contract. The parts that it lends are as long as it says, since Z and ZA are no longer than the rooms. Assumes nothing.
+use Prim.Native.Nat.{ℕ, _≤_}
+use native.Mathlib.Nat.{min-le-left}
+use native.Mathlib.Omega.{arith}
 use mathlib.Core.Path.{sym}
+use mathlib.Core.List.{List}
+use lib.ListN.{length, take, length-take}
 use lib.Seq.{length-take-le}
 use borrow.Author.Needs.{needs}
 use Rattle.sweeps.proofs.wrong_in.Statement.{statement}
 use Rattle.sweeps.proofs.wrong_in.Tie as tie
+
+-- a part is no longer than was asked for
+few : (k n : ℕ) (l : List ℕ) → k ≤ n → length (take k l) ≤ n
+few k n l h = omega (arith, length-take k l, min-le-left k (length l))
 
 count-of-requires : tie.Need-count-of-requires
 count-of-requires c κs = search needs
@@ -53,20 +62,10 @@ array-borrow-prefix-za-room c = search needs
 slice-aggregate-wrong-there-or-back-2 : tie.Need-slice-aggregate-wrong-there-or-back-2
 slice-aggregate-wrong-there-or-back-2 c = sym (length-take-le _ _ (search needs))
 
-array-borrow-prefix-z-due-room : tie.Need-array-borrow-prefix-z-due-room
-array-borrow-prefix-z-due-room c = search needs
-
-slice-aggregate-wrong-there-or-back-3 : tie.Need-slice-aggregate-wrong-there-or-back-3
-slice-aggregate-wrong-there-or-back-3 c = sym (length-take-le _ _ (search needs))
-
-array-borrow-prefix-za-due-room : tie.Need-array-borrow-prefix-za-due-room
-array-borrow-prefix-za-due-room c = search needs
-
-slice-aggregate-wrong-there-or-back-4 : tie.Need-slice-aggregate-wrong-there-or-back-4
-slice-aggregate-wrong-there-or-back-4 c = sym (length-take-le _ _ (search needs))
-
 wrong-there-or-back-requires : tie.Need-wrong-there-or-back-requires
-wrong-there-or-back-requires c κs = search needs
+wrong-there-or-back-requires c κs =
+    let l = c .before .before in
+    (few _ _ _ (l .before .z-length .ensures), few _ _ _ (l .za-length .ensures))
 
 returns-2 : tie.Need-returns-2
 returns-2 c = search needs
@@ -91,9 +90,5 @@ wrong-in-spec =
     slice-aggregate-wrong-there-or-back
     array-borrow-prefix-za-room
     slice-aggregate-wrong-there-or-back-2
-    array-borrow-prefix-z-due-room
-    slice-aggregate-wrong-there-or-back-3
-    array-borrow-prefix-za-due-room
-    slice-aggregate-wrong-there-or-back-4
     wrong-there-or-back-requires
     returns-2)
