@@ -8,7 +8,7 @@
 enum { WORDS = 64, PASSES = 4 };
 
 static struct {
-    bool quick, once, check_only, patient;
+    bool quick, once, patient;
     const char *only;
 } options;
 
@@ -24,23 +24,15 @@ static struct effort effort(void)
     return e;
 }
 
-/* Compares the answers and, unless only that is asked for, times them. NULL: there are no times to print. */
+/* Compares the answers, and times them. NULL: the row is not asked for. */
 static const struct row *add_row(const char *name, const struct call *call, uint32_t passes, uint32_t things)
 {
     if (options.only != NULL && strstr(name, options.only) == NULL)
         return NULL;
     struct row *row = new_row(name);
     check(name, call, &work);
-    if (options.check_only)
-        return NULL;
     row->times = measure(name, call, &work, passes, things, effort());
     return row;
-}
-
-static void print_title(const char *title, const char *more)
-{
-    if (!options.check_only)
-        print_heads(title, more);
 }
 
 static void add_word_row(const char *name, const struct call *call)
@@ -54,7 +46,7 @@ static void add_word_row(const char *name, const struct call *call)
 
 static void add_execute_rows(void)
 {
-    print_title("execute, ns a word", "");
+    print_heads("execute, ns a word", "");
     for (const struct kind *kind = kinds; kind < kinds + KINDS; kind++)
         for (int i = 0; i < LENGTHS; i++) {
             char name[MOST_NAME];
@@ -66,7 +58,7 @@ static void add_execute_rows(void)
 
 static void add_other_rows(void)
 {
-    print_title("decode, encode and partner of all kinds, and execute of words that are refused, ns a word", "");
+    print_heads("decode, encode and partner of all kinds, and execute of words that are refused, ns a word", "");
     make_work(&work, 128, kinds, KINDS, WORDS);
     add_word_row("decode", &decode_call);
     add_word_row("encode", &encode_call);
@@ -99,7 +91,7 @@ static void add_list_rows(void)
         const char *families;
         int first, kinds_given;
     } lists[] = {{"ABC", 0, 7}, {"CDE", 5, 8}, {"A", 0, 2}, {"B", 2, 3}, {"C", 5, 2}, {"D", 7, 4}, {"E", 11, 2}};
-    print_title("run of a list of 1,024 words, ns a word", "        million words a second");
+    print_heads("run of a list of 1,024 words, ns a word", "        million words a second");
     for (size_t i = 0; i < sizeof lists / sizeof *lists; i++)
         for (int j = 0; j < LENGTHS; j++)
             add_list_row(lists[i].families, lengths[j], &kinds[lists[i].first], (size_t)lists[i].kinds_given);
@@ -138,7 +130,7 @@ static void add_growth(const struct kind *kind, uint32_t vl)
 
 static void add_growth_rows(void)
 {
-    print_title("growth with n: run of a list of n words, ns a list", "        ns a word beyond n=0");
+    print_heads("growth with n: run of a list of n words, ns a list", "        ns a word beyond n=0");
     for (int i = 0; i < LENGTHS; i += 2) {
         add_growth(&kinds[2], lengths[i]);
         add_growth(&kinds[7], lengths[i]);
@@ -148,8 +140,6 @@ static void add_growth_rows(void)
 static void print_start(void)
 {
     struct effort e = effort();
-    if (options.check_only)
-        return;
     printf("medians of %u rounds of %.0f ms or more a side; ratio: library / second; quartiles of the rounds' ratios\n",
            (unsigned)e.rounds, e.nanoseconds / 1e6);
     if (e.attempts > 1)
@@ -163,14 +153,12 @@ static void read_options(int count, char **words)
             options.quick = true;
         else if (strcmp(words[i], "--once") == 0)
             options.once = true;
-        else if (strcmp(words[i], "--check-only") == 0)
-            options.check_only = true;
         else if (strcmp(words[i], "--patient") == 0)
             options.patient = true;
         else if (strcmp(words[i], "--only") == 0 && i + 1 < count)
             options.only = words[++i];
         else {
-            fprintf(stderr, "usage: bench [--quick] [--once] [--patient] [--check-only] [--only TEXT]\n");
+            fprintf(stderr, "usage: bench [--quick] [--once] [--patient] [--only TEXT]\n");
             exit(2);
         }
 }
@@ -184,10 +172,6 @@ int main(int count, char **words)
     add_other_rows();
     add_list_rows();
     add_growth_rows();
-    if (options.check_only) {
-        printf("%d rows, and both sides answer alike\n", count_rows());
-        return 0;
-    }
     print_bytes();
     if (options.patient)
         printf("\n%u rounds were taken again, since the core did not keep its full speed\n", (unsigned)rounds_again());

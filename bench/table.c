@@ -27,11 +27,6 @@ const struct times *times_of(const char *name)
     return NULL;
 }
 
-int count_rows(void)
-{
-    return row_count;
-}
-
 void print_heads(const char *title, const char *more)
 {
     printf("\n%s\n%-18s %10s %10s %6s  %s%s\n", title, "row", "library", "second", "ratio", "quartiles", more);

@@ -17,8 +17,6 @@ struct row *new_row(const char *name);
 /* The times of the row of this name, or NULL. */
 const struct times *times_of(const char *name);
 
-int count_rows(void);
-
 /* A section's title, and the heads of the columns that each section has; `more` stands behind them. */
 void print_heads(const char *title, const char *more);
 

@@ -1,46 +1,9 @@
-/* The stored cases: single executions with the answers that this program gives, one to a line, for another program to
- * be held to. README.md says what the columns are and how contents are made from a kind and a seed. */
-#include "commands.h"
-#include "stored.h"
+/* Single executions. README.md says what they go through. */
+#include "cases.h"
 
-/* One byte more than any Z and ZA, for the lengths that are too long. */
-enum { Z_ROOM = SECOND_MOST_Z + 1, ZA_ROOM = SECOND_MOST_ZA + 1 };
+#include "choices.h"
 
-static uint32_t checksum(const uint8_t *bytes, size_t length)
-{
-    uint32_t h = 2166136261u;
-    for (size_t i = 0; i < length; i++)
-        h = (h ^ bytes[i]) * 16777619u;
-    return h;
-}
-
-/* Lines */
-
-struct contents {
-    uint32_t kind, seed, length;
-};
-
-struct one_case {
-    struct second_settings s;
-    uint32_t word;
-    struct contents z, za;
-};
-
-static FILE *lines;
-
-static void print_case(const struct one_case *c)
-{
-    static uint8_t z[Z_ROOM], za[ZA_ROOM];
-    uint32_t toggled, written;
-    fill(z, c->z.length, c->z.kind, c->z.seed);
-    fill(za, c->za.length, c->za.kind, c->za.seed);
-    int refusal = second_execute(&c->s, c->word, z, c->z.length, za, c->za.length, &toggled, &written);
-    const uint32_t columns[] = {c->s.vl, c->s.features, c->s.modes, c->s.w[0], c->s.w[1], c->s.w[2], c->s.w[3],
-                                c->word, c->z.kind, c->z.seed, c->z.length, c->za.kind, c->za.seed, c->za.length,
-                                (uint32_t)refusal, toggled, written, checksum(z, c->z.length),
-                                checksum(za, c->za.length)};
-    print_columns(lines, columns, sizeof columns / sizeof *columns);
-}
+static take_case *take;
 
 /* Lengths of the VL, random contents and select registers. */
 static struct one_case common_case(uint32_t vl, uint32_t features, uint32_t modes, uint32_t word)
@@ -99,7 +62,7 @@ static struct second_fields numbered(uint32_t family, uint32_t at)
 }
 
 /* Every sign, operation, part, lane, index, group, select register and offset, `times` over. The contents are random
- * and mixed by turns. VL goes on by one at each line and each time, so three times give every line every VL. */
+ * and mixed by turns. VL goes on by one at each case and each time, so three times give every case every VL. */
 static void all_fields(uint32_t family, uint32_t times)
 {
     uint32_t turn = 0;
@@ -112,7 +75,7 @@ static void all_fields(uint32_t family, uint32_t times)
             struct one_case c = permitted(vls[(at + t) % 3], &f);
             c.z.kind = turn % 2 == 0 ? FILL_RANDOM : FILL_MIXED;
             c.za.kind = turn / 2 % 2 == 0 ? FILL_RANDOM : FILL_MIXED;
-            print_case(&c);
+            take(&c);
         }
 }
 
@@ -145,7 +108,7 @@ static void extremes(uint32_t family)
                 struct one_case c = permitted(vls[(v + kind + subtract) % 3], &f);
                 c.z.kind = kind;
                 c.za.kind = kind == 9 ? FILL_MIXED : choose(FILL_KINDS);
-                print_case(&c);
+                take(&c);
             }
 }
 
@@ -166,7 +129,7 @@ static void shared_registers(uint32_t family)
                     f.second = f.destination = shared == 3 ? f.destination : choose(second_below(&f));
                 struct one_case c = permitted(vls[i], &f);
                 c.z.kind = i == 1 ? FILL_MIXED : FILL_RANDOM;
-                print_case(&c);
+                take(&c);
             }
 }
 
@@ -186,7 +149,7 @@ static void top_registers(uint32_t family)
             f.second = second_below(&f) - f.group;
             f.destination = family <= SECOND_FAMILY_C ? top : 0;
             struct one_case c = permitted(vls[i], &f);
-            print_case(&c);
+            take(&c);
         }
 }
 
@@ -204,7 +167,7 @@ static void select_values(uint32_t family)
                 choose_registers(&f);
                 struct one_case c = permitted(vls[(w + offset + group / 2) % 3], &f);
                 c.s.w[f.select - 8] = ws[w];
-                print_case(&c);
+                take(&c);
             }
 }
 
@@ -222,27 +185,27 @@ static void settings_refused(void)
     for (uint32_t i = 0; i < sizeof bad_vls / sizeof *bad_vls; i++) {
         struct one_case c = common_case(128, 31, 3, samples[i % SAMPLES]);
         c.s.vl = bad_vls[i];
-        print_case(&c);
+        take(&c);
     }
     for (uint32_t i = 0; i < sizeof bad_features / sizeof *bad_features; i++) {
         struct one_case c = common_case(vls[i % 3], bad_features[i], 0, samples[i % SAMPLES]);
-        print_case(&c);
+        take(&c);
     }
     for (uint32_t i = 0; i < sizeof bad_modes / sizeof *bad_modes; i++) {
         struct one_case c = common_case(vls[i % 3], bad_modes[i][0], bad_modes[i][1], samples[i % SAMPLES]);
-        print_case(&c);
+        take(&c);
     }
     struct one_case both = common_case(128, 32, 0, 0);
     both.z.length = 0;
-    print_case(&both);
+    take(&both);
 }
 
-static void print_lengths(uint32_t vl, uint32_t modes, uint32_t word, uint32_t z, uint32_t za)
+static void take_lengths(uint32_t vl, uint32_t modes, uint32_t word, uint32_t z, uint32_t za)
 {
     struct one_case c = common_case(vl, 31, modes, word);
     c.z.length = z;
     c.za.length = za;
-    print_case(&c);
+    take(&c);
 }
 
 static void lengths_refused(void)
@@ -254,10 +217,10 @@ static void lengths_refused(void)
                                      {(uint32_t)second_z_length(other), (uint32_t)second_za_length(other)}};
         for (uint32_t j = 0; j < sizeof wrong / sizeof *wrong; j++) {
             uint32_t word = samples[(i + j) % SAMPLES];
-            print_lengths(vls[i], word >> 31 == 1 ? 3 : 0, word, wrong[j][0], wrong[j][1]);
+            take_lengths(vls[i], word >> 31 == 1 ? 3 : 0, word, wrong[j][0], wrong[j][1]);
         }
-        print_lengths(vls[i], 0, 0xFFFFFFFF, z, za - 1);
-        print_lengths(vls[i], 1, samples[0], z + 1, za);
+        take_lengths(vls[i], 0, 0xFFFFFFFF, z, za - 1);
+        take_lengths(vls[i], 1, samples[0], z + 1, za);
     }
 }
 
@@ -275,13 +238,13 @@ static void words_refused(void)
         struct one_case c = common_case(vls[i % 3], lacking[i][1], lacking[i][2], lacking[i][0]);
         c.z.kind = i % FILL_KINDS;
         c.za.kind = (i + 3) % FILL_KINDS;
-        print_case(&c);
+        take(&c);
     }
-    /* One bit away from a word: often none, at times another word, and the line says which. */
+    /* One bit away from a word: often none, at times another word. */
     for (uint32_t i = 0; i < sizeof rows / sizeof *rows; i++)
         for (uint32_t bit = i % 2; bit < 32; bit += 2) {
             struct one_case c = common_case(vls[(i + bit) % 3], 31, rows[i] >> 31 == 1 ? 3 : 0, rows[i] ^ 1u << bit);
-            print_case(&c);
+            take(&c);
         }
 }
 
@@ -293,14 +256,14 @@ static void modes_tried(void)
     for (uint32_t i = 0; i < SAMPLES; i++)
         for (uint32_t j = 0; j < sizeof pairs / sizeof *pairs; j++) {
             struct one_case c = common_case(vls[(i + j) % 3], pairs[j][0], pairs[j][1], samples[i]);
-            print_case(&c);
+            take(&c);
         }
 }
 
-int cases_command(FILE *out)
+void make_cases(uint32_t seed, take_case *taker)
 {
-    lines = out;
-    start_choosing(20010831);
+    take = taker;
+    start_choosing(seed);
     all_fields(SECOND_FAMILY_A, 1);
     all_fields(SECOND_FAMILY_B, 3);
     all_fields(SECOND_FAMILY_C, 3);
@@ -318,5 +281,4 @@ int cases_command(FILE *out)
     lengths_refused();
     words_refused();
     modes_tried();
-    return 0;
 }

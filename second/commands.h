@@ -7,8 +7,6 @@
 #include <stdio.h>
 
 int selftest_command(void);
-int cases_command(FILE *out);
-int sweeps_command(FILE *out);
 
 /* Writes the lists into a directory that is there, and what is due of them into its file `due`. With a number, which is
  * NULL for all, it leaves lists out and keeps at least so many, of every kind. */

@@ -1,8 +1,8 @@
 /* Run lists. README.md says what the kinds are. */
 #include "lists.h"
 
+#include "choices.h"
 #include "commands.h"
-#include "stored.h"
 
 #include <string.h>
 

@@ -72,16 +72,12 @@ int main(int argc, char **argv)
     int code = 2;
     if (argc == 2 && strcmp(argv[1], "selftest") == 0)
         code = selftest_command();
-    else if (argc == 2 && strcmp(argv[1], "cases") == 0)
-        code = cases_command(stdout);
-    else if (argc == 2 && strcmp(argv[1], "sweeps") == 0)
-        code = sweeps_command(stdout);
     else if ((argc == 3 || argc == 4) && strcmp(argv[1], "lists") == 0)
         code = lists_command(argv[2], argv[3]);
     else if (argc == 2 && strcmp(argv[1], "run") == 0)
         code = run_command();
     else
-        fprintf(stderr, "usage: second selftest | cases | sweeps | lists DIRECTORY [N] | run\n");
+        fprintf(stderr, "usage: second selftest | lists DIRECTORY [N] | run\n");
     /* A full disk must not look like a good run. */
     if (fflush(stdout) != 0)
         return 1;

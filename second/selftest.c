@@ -1,7 +1,8 @@
+#include "cases.h"
+#include "choices.h"
 #include "commands.h"
 #include "lists.h"
 #include "second.h"
-#include "stored.h"
 #include "sweeps.h"
 
 #include <stdlib.h>
@@ -421,21 +422,43 @@ static void every_word(void)
  * destination as a source spoils the source for its partner, and a word of C has no partner. */
 static void round_trips(void)
 {
-    static struct swept swept;
     start_choosing(20010902);
     for (int mix = 0; mix < MIXES; mix++)
         for (int v = 0; v < 3; v++) {
             struct sweep w = choose_sweep(vls[v], (enum mix)mix, 100);
-            check(leads_back(&w, &swept), "there and back");
+            check(leads_back(&w), "there and back");
         }
     struct sweep w = choose_sweep(128, A_AND_B, 10);
     w.words[4] = 0x0E218020;
-    check(leads_back(&w, &swept), "a word whose destination is no source");
+    check(leads_back(&w), "a word whose destination is no source");
     w.words[4] = 0x0E208020;
-    check(!leads_back(&w, &swept), "a word whose destination is its second source");
+    check(!leads_back(&w), "a word whose destination is its second source");
     w.s.features = 31;
     w.words[4] = 0x44BA3820;
-    check(!leads_back(&w, &swept), "a word of C");
+    check(!leads_back(&w), "a word of C");
+}
+
+/* How many cases there are with each answer of execute. */
+static unsigned answered[5];
+
+static void count_case(const struct one_case *c)
+{
+    static uint8_t z[SECOND_MOST_Z + 1], za[SECOND_MOST_ZA + 1];
+    uint32_t toggled, written;
+    fill(z, c->z.length, c->z.kind, c->z.seed);
+    fill(za, c->za.length, c->za.kind, c->za.seed);
+    answered[second_execute(&c->s, c->word, z, c->z.length, za, c->za.length, &toggled, &written)]++;
+}
+
+static void made_cases(void)
+{
+    unsigned all = 0;
+    make_cases(20010831, count_case);
+    for (int i = 0; i < 5; i++) {
+        all += answered[i];
+        check(answered[i] > 20, "made cases: each answer");
+    }
+    check(all == 1420, "made cases: how many");
 }
 
 /* The lists that `second lists` makes */
@@ -557,6 +580,7 @@ int selftest_command(void)
     encodes();
     every_word();
     round_trips();
+    made_cases();
     made_lists();
     if (failures != 0) {
         printf("%u checks, %u failed\n", checks, failures);

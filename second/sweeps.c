@@ -1,10 +1,8 @@
-/* The stored sweeps, for another program to be held to. README.md says what the columns are. */
+/* Sweeps. README.md says which there are. */
 #include "sweeps.h"
 
-#include "commands.h"
-#include "stored.h"
+#include "choices.h"
 
-#include <stdlib.h>
 #include <string.h>
 
 /* Choosing */
@@ -75,66 +73,48 @@ struct sweep choose_sweep(uint32_t vl, enum mix mix, uint32_t count)
 
 /* Running */
 
-static int step(const struct sweep *sweep, uint32_t word, struct registers *r, uint32_t *toggled, uint32_t *written)
+struct registers {
+    uint8_t z[SECOND_MOST_Z], za[SECOND_MOST_ZA];
+};
+
+struct counts {
+    uint32_t toggled, written;
+};
+
+static int step(const struct sweep *sweep, uint32_t word, struct registers *r, struct counts *c)
 {
     return second_execute(&sweep->s, word, r->z, second_z_length(sweep->s.vl), r->za, second_za_length(sweep->s.vl),
-                          toggled, written);
+                          &c->toggled, &c->written);
 }
 
-int leads_back(const struct sweep *sweep, struct swept *swept)
+static int step_back(const struct sweep *sweep, uint32_t word, struct registers *r, struct counts *c)
+{
+    uint32_t partner;
+    int refusal = second_partner(&sweep->s, word, &partner);
+    return refusal != SECOND_ACCEPTED ? refusal : step(sweep, partner, r, c);
+}
+
+int leads_back(const struct sweep *sweep)
 {
     static struct registers start, now;
+    static struct counts there[MOST_SWEPT];
     size_t z = second_z_length(sweep->s.vl), za = second_za_length(sweep->s.vl);
     fill(start.z, z, sweep->z_kind, sweep->z_seed);
     fill(start.za, za, sweep->za_kind, sweep->za_seed);
     now = start;
     for (uint32_t i = 0; i < sweep->count; i++)
-        if (second_partner(&sweep->s, sweep->words[i], &swept->partners[i]) != SECOND_ACCEPTED ||
-            step(sweep, sweep->words[i], &now, &swept->toggled[i], &swept->written[i]) != SECOND_ACCEPTED)
+        if (step(sweep, sweep->words[i], &now, &there[i]) != SECOND_ACCEPTED)
             return 0;
-    swept->end = now;
     for (uint32_t i = sweep->count; i-- > 0;) {
-        uint32_t toggled, written;
-        if (step(sweep, swept->partners[i], &now, &toggled, &written) != SECOND_ACCEPTED ||
-            toggled != swept->toggled[i] || written != swept->written[i])
+        struct counts back;
+        if (step_back(sweep, sweep->words[i], &now, &back) != SECOND_ACCEPTED || back.toggled != there[i].toggled ||
+            back.written != there[i].written)
             return 0;
     }
     return memcmp(now.z, start.z, z) == 0 && memcmp(now.za, start.za, za) == 0;
 }
 
-/* Printing */
-
-enum { BYTES_A_COLUMN = 4, COLUMNS_A_LINE = 16 };
-
-/* Both lengths are multiples of a line's 64 bytes at every VL. */
-static void print_bytes(FILE *out, const uint8_t *bytes, size_t length)
-{
-    uint32_t columns[COLUMNS_A_LINE];
-    for (size_t at = 0; at < length; at += BYTES_A_COLUMN * COLUMNS_A_LINE) {
-        for (size_t i = 0; i < COLUMNS_A_LINE; i++) {
-            const uint8_t *b = bytes + at + BYTES_A_COLUMN * i;
-            columns[i] = (uint32_t)b[0] << 24 | (uint32_t)b[1] << 16 | (uint32_t)b[2] << 8 | b[3];
-        }
-        print_columns(out, columns, COLUMNS_A_LINE);
-    }
-}
-
-/* A sweep that does not lead back must not be stored. */
-static void print_sweep(FILE *out, const struct sweep *w)
-{
-    static struct swept swept;
-    if (!leads_back(w, &swept))
-        abort();
-    const uint32_t head[] = {w->s.vl,   w->s.features, w->s.modes, w->s.w[0],  w->s.w[1],  w->s.w[2],
-                             w->s.w[3], w->z_kind,     w->z_seed,  w->za_kind, w->za_seed, w->count};
-    print_columns(out, head, sizeof head / sizeof *head);
-    for (uint32_t i = 0; i < w->count; i++) {
-        const uint32_t line[] = {w->words[i], swept.partners[i], swept.toggled[i], swept.written[i]};
-        print_columns(out, line, sizeof line / sizeof *line);
-    }
-    print_bytes(out, swept.end.z, second_z_length(w->s.vl));
-    print_bytes(out, swept.end.za, second_za_length(w->s.vl));
-}
+/* Making */
 
 /* Random, mixed and extreme by turns. Z of zeros is left out: products of zeros change nothing. */
 static uint32_t choose_kind(uint32_t turn, int zeros)
@@ -147,23 +127,21 @@ static uint32_t choose_kind(uint32_t turn, int zeros)
     return extremes[choose(zeros ? 8 : 7)];
 }
 
-/* There are ten lengths, one more than a multiple of three, so each has other kinds of contents at each VL. The seed is
- * one with which the words go through every field but the registers: README.md has the list. */
-int sweeps_command(FILE *out)
+/* There are ten lengths, one more than a multiple of three, so each has other kinds of contents at each VL. */
+void make_sweeps(uint32_t seed, take_sweep *take)
 {
     static const struct {
         enum mix mix;
         uint32_t count;
-    } lengths[] = {{ONLY_A, 90},  {ONLY_B, 60},   {A_AND_B, 200}, {ONLY_D_8, 60}, {ONLY_D, 70},
-                   {ONLY_E, 120}, {D_AND_E, 200}, {A_AND_B, 1},   {D_AND_E, 1},   {A_AND_B, 2}};
+    } lengths[] = {{ONLY_A, 90},  {ONLY_B, 60},   {A_AND_B, MOST_SWEPT}, {ONLY_D_8, 60}, {ONLY_D, 70},
+                   {ONLY_E, 120}, {D_AND_E, MOST_SWEPT}, {A_AND_B, 1},   {D_AND_E, 1},   {A_AND_B, 2}};
     uint32_t turn = 0;
-    start_choosing(20010929);
+    start_choosing(seed);
     for (uint32_t v = 0; v < 3; v++)
         for (size_t i = 0; i < sizeof lengths / sizeof *lengths; i++, turn++) {
             struct sweep sweep = choose_sweep(vls[v], lengths[i].mix, lengths[i].count);
             sweep.z_kind = choose_kind(turn, 0);
             sweep.za_kind = choose_kind(turn + 1, 1);
-            print_sweep(out, &sweep);
+            take(&sweep);
         }
-    return 0;
 }

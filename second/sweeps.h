@@ -17,22 +17,19 @@ struct sweep {
     uint32_t words[MOST_SWEPT];
 };
 
-struct registers {
-    uint8_t z[SECOND_MOST_Z], za[SECOND_MOST_ZA];
-};
-
-/* What each word of a sweep did, and where the last one ended. */
-struct swept {
-    uint32_t partners[MOST_SWEPT], toggled[MOST_SWEPT], written[MOST_SWEPT];
-    struct registers end;
-};
-
 /* Words of the mix and settings that permit them, with random contents. No word of A or B names its destination as a
  * source. */
 struct sweep choose_sweep(uint32_t vl, enum mix mix, uint32_t count);
 
 /* Whether every word and then every partner is accepted, each partner counts what its word counted, and every byte of
  * Z and ZA comes back. */
-int leads_back(const struct sweep *sweep, struct swept *swept);
+int leads_back(const struct sweep *sweep);
+
+/* Takes one sweep, which is lent until the call returns. */
+typedef void take_sweep(const struct sweep *sweep);
+
+/* Makes 30 sweeps, the same ones in the same order at each call with the same seed, which is not 0. README.md says
+ * which. */
+void make_sweeps(uint32_t seed, take_sweep *take);
 
 #endif

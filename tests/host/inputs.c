@@ -1,6 +1,6 @@
 #include "inputs.h"
 
-#include "stored.h"
+#include "choices.h"
 
 /* Words */
 

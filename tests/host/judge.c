@@ -1,7 +1,7 @@
 #include "judge.h"
 
 #include "callinglamp.h"
-#include "stored.h"
+#include "choices.h"
 
 #include <stdio.h>
 #include <stdlib.h>

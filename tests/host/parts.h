@@ -10,6 +10,11 @@ void compare_words(void);
 /* execute, percent */
 void compare_steps(void);
 
+/* execute, on the second program's cases, and with partner on its sweeps: they are made with this seed and those after
+ * it. Each says how many there were, and returns 0 where they are too few. */
+int compare_cases(uint32_t seed);
+int compare_sweeps(uint32_t seed);
+
 /* run: the lists are made with this seed and those after it. */
 void compare_runs(uint32_t seed);
 

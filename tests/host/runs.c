@@ -1,10 +1,10 @@
 /* Run. */
 #include "callinglamp.h"
+#include "choices.h"
 #include "inputs.h"
 #include "judge.h"
 #include "lists.h"
 #include "parts.h"
-#include "stored.h"
 
 /* More numbers than a report of the longest list has: the rest must stay. */
 enum { MOST_REPORT = 3 * SECOND_MOST_WORDS + 40 };

@@ -1,11 +1,7 @@
 /* Execute and percent. */
-#include "callinglamp.h"
-#include "inputs.h"
-#include "judge.h"
+#include "calls.h"
+#include "choices.h"
 #include "parts.h"
-#include "stored.h"
-
-static struct room settings_room, z_room, za_room, counts_room;
 
 /* One execution: what is given, and what Z and ZA are filled with. */
 struct step {
@@ -15,32 +11,16 @@ struct step {
     uint32_t kind;
 };
 
-static void lend_step(const struct step *step)
+static void compare_step(const struct step *step)
 {
-    static uint8_t contents[MOST_LENGTH];
-    lend(&settings_room, &step->s, CALLINGLAMP_SETTINGS);
-    fill(contents, step->z_length, step->kind, choose_any());
-    lend(&z_room, contents, step->z_length);
-    fill(contents, step->za_length, step->kind, choose_any());
-    lend(&za_room, contents, step->za_length);
-    lend_random(&counts_room, 2);
-}
-
-static void compare_execute(const struct step *step)
-{
-    uint32_t toggled, written;
-    lend_step(step);
-    struct call call = {EXECUTE, {{"word", step->word}}, {&settings_room, &z_room, &za_room, &counts_room}, 0, 0};
-    int refusal = second_execute(&step->s, step->word, due_bytes(&z_room), step->z_length, due_bytes(&za_room),
-                                 step->za_length, &toggled, &written);
-    if (refusal == SECOND_ACCEPTED) {
-        due_numbers(&counts_room)[0] = toggled;
-        due_numbers(&counts_room)[1] = written;
-    }
-    call.due = answer_of(refusal, 0);
-    call.answer = callinglamp_execute(numbers_of(&settings_room), step->word, bytes_of(&z_room), step->z_length,
-                                      bytes_of(&za_room), step->za_length, numbers_of(&counts_room));
-    judge(&call);
+    static struct execution e;
+    e.s = step->s;
+    e.word = step->word;
+    e.z_length = step->z_length;
+    e.za_length = step->za_length;
+    fill(e.z, e.z_length, step->kind, choose_any());
+    fill(e.za, e.za_length, step->kind, choose_any());
+    compare_execute(&e);
 }
 
 /* One time in three a word of A, B or C has its destination as a source. */
@@ -88,7 +68,7 @@ static void compare_lengths(uint32_t row, uint32_t vl)
         struct step step = choose_good_step(row, vl);
         step.z_length = i % 4 == 3 ? 0 : step.z_length + (size_t)off[i % 4];
         step.za_length = i / 4 == 3 ? 0 : step.za_length + (size_t)off[i / 4];
-        compare_execute(&step);
+        compare_step(&step);
     }
 }
 
@@ -97,19 +77,11 @@ static void compare_row(uint32_t row, uint32_t vl)
     compare_lengths(row, vl);
     for (int i = 0; i < 1200; i++) {
         struct step step = choose_good_step(row, vl);
-        compare_execute(&step);
+        compare_step(&step);
         damage_step(&step);
         if (i % 2 == 0)
-            compare_execute(&step);
+            compare_step(&step);
     }
-}
-
-static void compare_percent(uint32_t toggled, uint32_t written)
-{
-    struct call call = {PERCENT, {{"toggled", toggled}, {"written", written}}, {NULL}, 0, 0};
-    call.due = second_percent(toggled, written);
-    call.answer = callinglamp_percent(toggled, written);
-    judge(&call);
 }
 
 static void compare_percents(void)
@@ -129,10 +101,6 @@ static void compare_percents(void)
 
 void compare_steps(void)
 {
-    settings_room = make_room("settings", sizeof(uint32_t), CALLINGLAMP_SETTINGS);
-    z_room = make_room("z", 1, MOST_LENGTH);
-    za_room = make_room("za", 1, MOST_LENGTH);
-    counts_room = make_room("counts", sizeof(uint32_t), 2);
     for (uint32_t row = 0; row < ROWS; row++)
         for (int v = 0; v < 3; v++)
             compare_row(row, vls[v]);

@@ -1,54 +1,8 @@
 /* Decode, encode and partner. */
 #include "callinglamp.h"
-#include "inputs.h"
-#include "judge.h"
+#include "calls.h"
+#include "choices.h"
 #include "parts.h"
-#include "stored.h"
-
-#include <string.h>
-
-/* The structs of the second program have nothing but their numbers, in the order of the C interface. */
-_Static_assert(sizeof(struct second_settings) == CALLINGLAMP_SETTINGS * sizeof(uint32_t), "settings are 7 numbers");
-_Static_assert(sizeof(struct second_fields) == CALLINGLAMP_FIELDS * sizeof(uint32_t), "fields are 12 numbers");
-
-static struct room settings_room, fields_room;
-
-static void compare_decode(const struct second_settings *s, uint32_t word)
-{
-    struct second_fields f;
-    lend(&settings_room, s, CALLINGLAMP_SETTINGS);
-    lend_random(&fields_room, CALLINGLAMP_FIELDS);
-    struct call call = {DECODE, {{"word", word}}, {&settings_room, &fields_room}, 0, 0};
-    int refusal = second_decode(s, word, &f);
-    if (refusal == SECOND_ACCEPTED)
-        memcpy(due_bytes(&fields_room), &f, sizeof f);
-    call.due = answer_of(refusal, 0);
-    call.answer = callinglamp_decode(numbers_of(&settings_room), word, numbers_of(&fields_room));
-    judge(&call);
-}
-
-static void compare_encode(const struct second_settings *s, const struct second_fields *f)
-{
-    uint32_t word;
-    lend(&settings_room, s, CALLINGLAMP_SETTINGS);
-    lend(&fields_room, f, CALLINGLAMP_FIELDS);
-    struct call call = {ENCODE, {{NULL, 0}}, {&settings_room, &fields_room}, 0, 0};
-    int refusal = second_encode(s, f, &word);
-    call.due = answer_of(refusal, word);
-    call.answer = callinglamp_encode(numbers_of(&settings_room), numbers_of(&fields_room));
-    judge(&call);
-}
-
-static void compare_partner(const struct second_settings *s, uint32_t word)
-{
-    uint32_t partner;
-    lend(&settings_room, s, CALLINGLAMP_SETTINGS);
-    struct call call = {PARTNER, {{"word", word}}, {&settings_room}, 0, 0};
-    int refusal = second_partner(s, word, &partner);
-    call.due = answer_of(refusal, partner);
-    call.answer = callinglamp_partner(numbers_of(&settings_room), word);
-    judge(&call);
-}
 
 /* Every word one bit away from a word of each row, under all features. */
 static void compare_neighbours(void)
@@ -116,8 +70,6 @@ static struct second_fields choose_fields(void)
 
 void compare_words(void)
 {
-    settings_room = make_room("settings", sizeof(uint32_t), CALLINGLAMP_SETTINGS);
-    fields_room = make_room("fields", sizeof(uint32_t), CALLINGLAMP_FIELDS);
     compare_neighbours();
     compare_fields_in_turn();
     for (int i = 0; i < 50000; i++) {

@@ -25,7 +25,7 @@ followed-says s w z za r z′ za′ (partnered.Word v) e f = f ∙ undo-word s w
 followed-says s w z za r z′ za′ (partnered.Refused q) e (er, ez, eza) =
     rw (er, ez, eza) (undo-refused s w z za (refusalNumber q) e (not-0 q))
 
-pub undo-says : (s : Settings) (w : ℕ) (z za : List ℕ) (r : Executed) (z′ za′ : List ℕ) → UndoCalls s w z za r z′ za′ → executedSays r z′ za′ ≡ undoPaper s w z za
+undo-says : (s : Settings) (w : ℕ) (z za : List ℕ) (r : Executed) (z′ za′ : List ℕ) → UndoCalls s w z za r z′ za′ → executedSays r z′ za′ ≡ undoPaper s w z za
 undo-says s w z za r z′ za′ u = followed-says s w z za r z′ za′ (u .asked) (u .promised) (u .followed)
 
 -- ---- calls are a run

@@ -18,17 +18,41 @@ fn byte_at(line: &[u8], at: usize) -> u8 {
     if at < line.len() { line[at] } else { 0 }
 }
 
-// The word that the line is about.
-fn word_of(line: &[u8]) -> u32 {
-    stored::number_of(line, 0)
+// The value of a digit: `0` to `9` are the bytes 48 to 57, and `A` to `F` 65 to 70.
+fn digit(byte: u8) -> u32
+    ensures { λ r. ⌜ r < 16 ⌝ }
+{
+    let code = byte as u32;
+    if code < 64 {
+        code % 16
+    } else {
+        (code + 9) % 16
+    }
 }
 
-// One of the line's twelve numbers: 0 is the family, and the fields follow in document 01's order.
+// The number of four hexadecimal digits from a place.
+fn four_at(line: &[u8], at: usize) -> u32
+    requires { ⌜ at < 5 ⌝ }
+    ensures { λ r. ⌜ r < 65536 ⌝ }
+{
+    digit(byte_at(line, at)) * 4096
+        + digit(byte_at(line, at + 1)) * 256
+        + digit(byte_at(line, at + 2)) * 16
+        + digit(byte_at(line, at + 3))
+}
+
+// The word that the line is about: its first eight digits.
+fn word_of(line: &[u8]) -> u32 {
+    four_at(line, 0) * 65536 + four_at(line, 4)
+}
+
+// One of the line's twelve numbers, of two decimal digits each, after the word: 0 is the family, and the fields follow
+// in document 01's order.
 fn number_of(line: &[u8], column: usize) -> u32
     requires { ⌜ column < 12 ⌝ }
 {
-    let at = stored::COLUMN + 3 * column;
-    stored::digit(byte_at(line, at)) * 10 + stored::digit(byte_at(line, at + 1))
+    let at = 9 + 3 * column;
+    digit(byte_at(line, at)) * 10 + digit(byte_at(line, at + 1))
 }
 
 fn family_of(line: &[u8]) -> u32 {

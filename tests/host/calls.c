@@ -1,0 +1,102 @@
+#include "calls.h"
+
+#include "callinglamp.h"
+#include "choices.h"
+#include "judge.h"
+
+#include <string.h>
+
+/* The structs of the second program have nothing but their numbers, in the order of the C interface. */
+_Static_assert(sizeof(struct second_settings) == CALLINGLAMP_SETTINGS * sizeof(uint32_t), "settings are 7 numbers");
+_Static_assert(sizeof(struct second_fields) == CALLINGLAMP_FIELDS * sizeof(uint32_t), "fields are 12 numbers");
+
+static struct room settings_room, fields_room, z_room, za_room, counts_room;
+
+void make_rooms(void)
+{
+    settings_room = make_room("settings", sizeof(uint32_t), CALLINGLAMP_SETTINGS);
+    fields_room = make_room("fields", sizeof(uint32_t), CALLINGLAMP_FIELDS);
+    z_room = make_room("z", 1, MOST_LENGTH);
+    za_room = make_room("za", 1, MOST_LENGTH);
+    counts_room = make_room("counts", sizeof(uint32_t), 2);
+}
+
+void compare_decode(const struct second_settings *s, uint32_t word)
+{
+    struct second_fields f;
+    lend(&settings_room, s, CALLINGLAMP_SETTINGS);
+    lend_random(&fields_room, CALLINGLAMP_FIELDS);
+    struct call call = {DECODE, {{"word", word}}, {&settings_room, &fields_room}, 0, 0};
+    int refusal = second_decode(s, word, &f);
+    if (refusal == SECOND_ACCEPTED)
+        memcpy(due_bytes(&fields_room), &f, sizeof f);
+    call.due = answer_of(refusal, 0);
+    call.answer = callinglamp_decode(numbers_of(&settings_room), word, numbers_of(&fields_room));
+    judge(&call);
+}
+
+void compare_encode(const struct second_settings *s, const struct second_fields *f)
+{
+    uint32_t word;
+    lend(&settings_room, s, CALLINGLAMP_SETTINGS);
+    lend(&fields_room, f, CALLINGLAMP_FIELDS);
+    struct call call = {ENCODE, {{NULL, 0}}, {&settings_room, &fields_room}, 0, 0};
+    int refusal = second_encode(s, f, &word);
+    call.due = answer_of(refusal, word);
+    call.answer = callinglamp_encode(numbers_of(&settings_room), numbers_of(&fields_room));
+    judge(&call);
+}
+
+uint64_t compare_partner(const struct second_settings *s, uint32_t word)
+{
+    uint32_t partner;
+    lend(&settings_room, s, CALLINGLAMP_SETTINGS);
+    struct call call = {PARTNER, {{"word", word}}, {&settings_room}, 0, 0};
+    int refusal = second_partner(s, word, &partner);
+    call.due = answer_of(refusal, partner);
+    call.answer = callinglamp_partner(numbers_of(&settings_room), word);
+    judge(&call);
+    return call.answer;
+}
+
+static void lend_execution(const struct execution *e)
+{
+    lend(&settings_room, &e->s, CALLINGLAMP_SETTINGS);
+    lend(&z_room, e->z, e->z_length);
+    lend(&za_room, e->za, e->za_length);
+    lend_random(&counts_room, 2);
+}
+
+static void take_back(struct execution *e)
+{
+    memcpy(e->z, bytes_of(&z_room), e->z_length);
+    memcpy(e->za, bytes_of(&za_room), e->za_length);
+    memcpy(e->counts, numbers_of(&counts_room), sizeof e->counts);
+}
+
+uint32_t compare_execute(struct execution *e)
+{
+    uint32_t toggled, written;
+    lend_execution(e);
+    struct call call = {EXECUTE, {{"word", e->word}}, {&settings_room, &z_room, &za_room, &counts_room}, 0, 0};
+    int refusal = second_execute(&e->s, e->word, due_bytes(&z_room), e->z_length, due_bytes(&za_room), e->za_length,
+                                 &toggled, &written);
+    if (refusal == SECOND_ACCEPTED) {
+        due_numbers(&counts_room)[0] = toggled;
+        due_numbers(&counts_room)[1] = written;
+    }
+    call.due = answer_of(refusal, 0);
+    call.answer = callinglamp_execute(numbers_of(&settings_room), e->word, bytes_of(&z_room), e->z_length,
+                                      bytes_of(&za_room), e->za_length, numbers_of(&counts_room));
+    judge(&call);
+    take_back(e);
+    return callinglamp_refusal(call.answer);
+}
+
+void compare_percent(uint32_t toggled, uint32_t written)
+{
+    struct call call = {PERCENT, {{"toggled", toggled}, {"written", written}}, {NULL}, 0, 0};
+    call.due = second_percent(toggled, written);
+    call.answer = callinglamp_percent(toggled, written);
+    judge(&call);
+}
