@@ -3,7 +3,7 @@ use Prim.Native.Nat.{ℕ, zero, suc, _+_, _^_, _≤_, _<_}
 use native.Mathlib.Nat.{zero-add}
 use native.Mathlib.Omega.{arith}
 use mathlib.Core.Path.{_≡_, refl, sym, ap, ap₂, _∙_}
-use mathlib.Core.List.{List, [], _++_, append-assoc, append-nil}
+use mathlib.Core.List.{List, [], _∷_, _++_, append-assoc, append-nil}
 use lib.Dec.{lit<, lit≤}
 use lib.ListN.{length, take, drop, replicate, length-append, take-append-drop}
 use lib.Seq.{drop-drop, drop-length, drop-append-seam, take-at}
@@ -20,6 +20,7 @@ use Rattle.numbers.proofs.Forms.{number-form, row-form, row-put}
 use Rattle.runlist.specs.Plan.{Found, found, Asked, endedAt, wordsFrom, asking, settledFrom, settingsOf, headed, planOf}
 use Rattle.runlist.proofs.Plans.{words-counted, z-read}
 use Rattle.demands.specs.Lists.{longest, Fits, numbersOf, written, Askable, WrittenIsRead, OneList, LongestReached}
+use Rattle.demands.specs.ListExamples.{begun, most, MostWords}
 use Rattle.demands.proofs.Reading.{made}
 
 -- ---- settings and their seven numbers
@@ -162,3 +163,26 @@ greatest-long = refl
 
 pub longest-reached : LongestReached
 longest-reached = (greatest, written-is-read 2048 4096 3072 greatest greatest-askable, greatest-long)
+
+-- ---- row 15: 1,024 words
+
+most-fits : Fits 512 256 3072 most
+unfolding settingsOf validSettings vectorBytes arrayBytes
+most-fits = record { valid = refl; exact = refl; z-bytes = refl; few = lit≤ tt; reported = lit≤ tt }
+
+most-askable : Askable 512 256 3072 most
+unfolding settingsOf
+most-askable =
+    record {
+      fits = most-fits;
+      four = refl;
+      numbers = (lit< tt, (lit< tt, (lit< tt, each-replicate (λ n. n < 2 ^ 32) 4 0 (lit< tt))));
+      words = each-replicate (λ n. n < 2 ^ 32) 1024 0 (lit< tt);
+    }
+
+most-written : begun ++ 0x80 ∷ 0x08 ∷ replicate 1024 0x00 ≡ written most
+unfolding settingsOf written puts put putIn
+most-written = refl
+
+pub most-words : MostWords
+most-words = ap (λ (l : List ℕ). planOf l 512 256 3072) most-written ∙ written-is-read 512 256 3072 most most-askable

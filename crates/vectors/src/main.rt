@@ -321,9 +321,16 @@ fn check_list(list: &[u8]) {
     print_counts(words, described, wrong);
 }
 
-// The buffer is larger than the file. A longer file would be cut short, and the count of words would show it.
+// Larger than the file. A longer file would be cut short, and the count of words would show it.
+const INPUT: usize = 524288;
+
+// A function of its own: of an array that a call returns the prover knows the length, and of one that it sees made it counts the elements.
+fn input_room() -> [u8; INPUT] {
+    [0u8; INPUT]
+}
+
 fn main() {
-    let mut input = [0u8; 524288];
+    let mut input = input_room();
     let got = io::read_full(0, &mut input);
     check_list(&input[..got]);
 }
