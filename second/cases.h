@@ -20,6 +20,7 @@ typedef void take_case(const struct one_case *c);
 
 /* Makes all cases: the same ones in the same order at each call with the same seed, which is not 0. With another seed
  * the choices that README.md's list leaves open are others. */
+enum { CASES_SEED = 20010831 };
 void make_cases(uint32_t seed, take_case *take);
 
 #endif

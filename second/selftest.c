@@ -438,27 +438,48 @@ static void round_trips(void)
     check(!leads_back(&w), "a word of C");
 }
 
-/* How many cases there are with each answer of execute. */
+/* How many cases there are with each answer of execute, and a checksum of all answers: FNV-1a of 32 bits. */
 static unsigned answered[5];
+static uint32_t answers = 2166136261u;
 
-static void count_case(const struct one_case *c)
+static void add_bytes(const uint8_t *bytes, size_t length)
+{
+    for (size_t i = 0; i < length; i++)
+        answers = (answers ^ bytes[i]) * 16777619u;
+}
+
+static void add_number(uint32_t number)
+{
+    const uint8_t bytes[] = {(uint8_t)number, (uint8_t)(number >> 8), (uint8_t)(number >> 16), (uint8_t)(number >> 24)};
+    add_bytes(bytes, sizeof bytes);
+}
+
+static void answer_case(const struct one_case *c)
 {
     static uint8_t z[SECOND_MOST_Z + 1], za[SECOND_MOST_ZA + 1];
     uint32_t toggled, written;
     fill(z, c->z.length, c->z.kind, c->z.seed);
     fill(za, c->za.length, c->za.kind, c->za.seed);
-    answered[second_execute(&c->s, c->word, z, c->z.length, za, c->za.length, &toggled, &written)]++;
+    int refusal = second_execute(&c->s, c->word, z, c->z.length, za, c->za.length, &toggled, &written);
+    answered[refusal]++;
+    add_number((uint32_t)refusal);
+    add_number(toggled);
+    add_number(written);
+    add_bytes(z, c->z.length);
+    add_bytes(za, c->za.length);
 }
 
 static void made_cases(void)
 {
     unsigned all = 0;
-    make_cases(20010831, count_case);
+    make_cases(CASES_SEED, answer_case);
     for (int i = 0; i < 5; i++) {
         all += answered[i];
         check(answered[i] > 20, "made cases: each answer");
     }
     check(all == 1420, "made cases: how many");
+    /* This number changes only where the answers, or the cases, are meant to change. */
+    check(answers == 0xF69A5768, "made cases: the same answers as ever");
 }
 
 /* The lists that `second lists` makes */
