@@ -93,6 +93,18 @@ uint32_t compare_execute(struct execution *e)
     return callinglamp_refusal(call.answer);
 }
 
+void compare_case(const struct one_case *c)
+{
+    static struct execution e;
+    e.s = c->s;
+    e.word = c->word;
+    e.z_length = c->z.length;
+    e.za_length = c->za.length;
+    fill(e.z, e.z_length, c->z.kind, c->z.seed);
+    fill(e.za, e.za_length, c->za.kind, c->za.seed);
+    compare_execute(&e);
+}
+
 void compare_percent(uint32_t toggled, uint32_t written)
 {
     struct call call = {PERCENT, {{"toggled", toggled}, {"written", written}}, {NULL}, 0, 0};

@@ -2,6 +2,7 @@
 #ifndef CALLS_H
 #define CALLS_H
 
+#include "cases.h"
 #include "inputs.h"
 
 /* The rooms that the calls below lend. */
@@ -25,5 +26,8 @@ struct execution {
 
 /* The refusal number, or 0. */
 uint32_t compare_execute(struct execution *e);
+
+/* The execution that a case says. */
+void compare_case(const struct one_case *c);
 
 #endif

@@ -3,26 +3,6 @@
 #include "choices.h"
 #include "parts.h"
 
-/* One execution: what is given, and what Z and ZA are filled with. */
-struct step {
-    struct second_settings s;
-    uint32_t word;
-    size_t z_length, za_length;
-    uint32_t kind;
-};
-
-static void compare_step(const struct step *step)
-{
-    static struct execution e;
-    e.s = step->s;
-    e.word = step->word;
-    e.z_length = step->z_length;
-    e.za_length = step->za_length;
-    fill(e.z, e.z_length, step->kind, choose_any());
-    fill(e.za, e.za_length, step->kind, choose_any());
-    compare_execute(&e);
-}
-
 /* One time in three a word of A, B or C has its destination as a source. */
 static void choose_destination(struct second_fields *f)
 {
@@ -32,26 +12,28 @@ static void choose_destination(struct second_fields *f)
 }
 
 /* A step that is accepted. */
-static struct step choose_good_step(uint32_t row, uint32_t vl)
+static struct one_case choose_good_step(uint32_t row, uint32_t vl)
 {
     struct second_fields f = choose_fields_of_row(row);
-    struct step step = {.s = {.vl = vl}, .z_length = second_z_length(vl), .za_length = second_za_length(vl)};
+    struct one_case step = {.s = {.vl = vl}};
     choose_destination(&f);
     choose_permitting(&f, &step.s);
     for (int i = 0; i < 4; i++)
         step.s.w[i] = choose_select();
     step.word = word_of(&f);
-    step.kind = choose(FILL_KINDS);
+    uint32_t kind = choose(FILL_KINDS);
+    step.z = (struct contents){kind, choose_any(), (uint32_t)second_z_length(vl)};
+    step.za = (struct contents){kind, choose_any(), (uint32_t)second_za_length(vl)};
     return step;
 }
 
 /* Each fault may come with others, so that the order of the tests shows. */
-static void damage_step(struct step *step)
+static void damage_step(struct one_case *step)
 {
     if (choose(4) == 0)
-        step->z_length = choose_wrong_length(step->z_length);
+        step->z.length = (uint32_t)choose_wrong_length(step->z.length);
     if (choose(4) == 0)
-        step->za_length = choose_wrong_length(step->za_length);
+        step->za.length = (uint32_t)choose_wrong_length(step->za.length);
     if (choose(3) == 0)
         step->word = choose_word();
     if (choose(2) == 0)
@@ -65,10 +47,10 @@ static void compare_lengths(uint32_t row, uint32_t vl)
 {
     static const int off[] = {0, 1, -1};
     for (int i = 0; i < 16; i++) {
-        struct step step = choose_good_step(row, vl);
-        step.z_length = i % 4 == 3 ? 0 : step.z_length + (size_t)off[i % 4];
-        step.za_length = i / 4 == 3 ? 0 : step.za_length + (size_t)off[i / 4];
-        compare_step(&step);
+        struct one_case step = choose_good_step(row, vl);
+        step.z.length = i % 4 == 3 ? 0 : step.z.length + (uint32_t)off[i % 4];
+        step.za.length = i / 4 == 3 ? 0 : step.za.length + (uint32_t)off[i / 4];
+        compare_case(&step);
     }
 }
 
@@ -76,11 +58,11 @@ static void compare_row(uint32_t row, uint32_t vl)
 {
     compare_lengths(row, vl);
     for (int i = 0; i < 1200; i++) {
-        struct step step = choose_good_step(row, vl);
-        compare_step(&step);
+        struct one_case step = choose_good_step(row, vl);
+        compare_case(&step);
         damage_step(&step);
         if (i % 2 == 0)
-            compare_step(&step);
+            compare_case(&step);
     }
 }
 

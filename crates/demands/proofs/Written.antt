@@ -125,64 +125,62 @@ module _ (z za room : ℕ) (a : Asked) (k : Askable z za room a) where
 pub written-is-read : WrittenIsRead
 written-is-read z za room a k = is-read z za room a k
 
--- ---- the longest list
+-- ---- lists filled with one number
 
 each-replicate : (P : ℕ → Type 0) (n x : ℕ) → P x → Each P (replicate n x)
 each-replicate P zero x h = tt
 each-replicate P (suc n) x h = (h, each-replicate P n x h)
 
--- W8 to W11 and all words have five bytes
-greatest : Asked
-greatest =
+-- W8 to W11 are all w, and the n words all x
+filled : (vl features modes w : ℕ) (z : List ℕ) (n x : ℕ) → Asked
+filled vl features modes w z n x =
     record {
-      settings = record { vl = 512; features = record { 0 = 0 }; modes = record { 0 = 0 }; select = replicate 4 4294967295 };
-      z = replicate 2048 0;
-      words = replicate 1024 4294967295;
+      settings = record { vl = vl; features = record { 0 = features }; modes = record { 0 = modes }; select = replicate 4 w };
+      z = z;
+      words = replicate n x;
     }
 
-greatest-fits : Fits 2048 4096 3072 greatest
-unfolding greatest validSettings vectorBytes arrayBytes
-greatest-fits = record { valid = refl; exact = refl; z-bytes = refl; few = lit≤ tt; reported = lit≤ tt }
-
-small : 4294967295 < 2 ^ 32
-small = lit< tt
-
-greatest-askable : Askable 2048 4096 3072 greatest
-unfolding greatest
-greatest-askable =
+-- where it fits, it is understood
+filled-read : (vl features modes w : ℕ) (b : List ℕ) (n x z za room : ℕ) → vl < 2 ^ 32 → features < 2 ^ 32 → modes < 2 ^ 32 → w < 2 ^ 32 → x < 2 ^ 32
+    → Fits z za room (filled vl features modes w b n x)
+    → planOf (written (filled vl features modes w b n x)) z za room ≡ found (filled vl features modes w b n x)
+unfolding filled
+filled-read vl features modes w b n x z za room hv hf hm hw hx fits =
+    written-is-read z za room (filled vl features modes w b n x)
     record {
-      fits = greatest-fits;
+      fits = fits;
       four = refl;
-      numbers = (lit< tt, (lit< tt, (lit< tt, each-replicate (λ n. n < 2 ^ 32) 4 4294967295 small)));
-      words = each-replicate (λ n. n < 2 ^ 32) 1024 4294967295 small;
+      numbers = (hv, (hf, (hm, each-replicate (λ k. k < 2 ^ 32) 4 w hw)));
+      words = each-replicate (λ k. k < 2 ^ 32) n x hx;
     }
+
+-- ---- the longest list: W8 to W11 and all words have five bytes
+
+greatest : Asked
+greatest = filled 512 0 0 4294967295 (replicate 2048 0) 1024 4294967295
+
+greatest-read : planOf (written greatest) 2048 4096 3072 ≡ found greatest
+unfolding greatest filled validSettings vectorBytes arrayBytes
+greatest-read =
+    filled-read 512 0 0 4294967295 (replicate 2048 0) 1024 4294967295 2048 4096 3072 (lit< tt) (lit< tt) (lit< tt) (lit< tt) (lit< tt)
+    record { valid = refl; exact = refl; z-bytes = refl; few = lit≤ tt; reported = lit≤ tt }
 
 greatest-long : length (written greatest) ≡ longest
-unfolding greatest written puts put putIn
+unfolding greatest filled written puts put putIn
 greatest-long = refl
 
 pub longest-reached : LongestReached
-longest-reached = (greatest, written-is-read 2048 4096 3072 greatest greatest-askable, greatest-long)
+longest-reached = (greatest, greatest-read, greatest-long)
 
 -- ---- row 15: 1,024 words
-
-most-fits : Fits 512 256 3072 most
-unfolding settingsOf validSettings vectorBytes arrayBytes
-most-fits = record { valid = refl; exact = refl; z-bytes = refl; few = lit≤ tt; reported = lit≤ tt }
-
-most-askable : Askable 512 256 3072 most
-unfolding settingsOf
-most-askable =
-    record {
-      fits = most-fits;
-      four = refl;
-      numbers = (lit< tt, (lit< tt, (lit< tt, each-replicate (λ n. n < 2 ^ 32) 4 0 (lit< tt))));
-      words = each-replicate (λ n. n < 2 ^ 32) 1024 0 (lit< tt);
-    }
 
 most-written : begun ++ 0x80 ∷ 0x08 ∷ replicate 1024 0x00 ≡ written most
 unfolding settingsOf written puts put putIn
 most-written = refl
 
 pub most-words : MostWords
-most-words = ap (λ (l : List ℕ). planOf l 512 256 3072) most-written ∙ written-is-read 512 256 3072 most most-askable
+unfolding filled settingsOf validSettings vectorBytes arrayBytes
+most-words =
+    ap (λ (l : List ℕ). planOf l 512 256 3072) most-written
+    ∙ filled-read 128 12 3 0 (replicate 512 0x01) 1024 0 512 256 3072 (lit< tt) (lit< tt) (lit< tt) (lit< tt) (lit< tt)
+    record { valid = refl; exact = refl; z-bytes = refl; few = lit≤ tt; reported = lit≤ tt }

@@ -28,7 +28,7 @@ longest-is = refl
 -- ---- document 01's list
 
 -- VL 128, features 12, modes 3, four zeros
-abbrev pub numbers : List ℕ
+abbrev numbers : List ℕ
 numbers = 0x80 ∷ 0x01 ∷ 0x0C ∷ 0x03 ∷ 0x00 ∷ 0x00 ∷ 0x00 ∷ 0x00 ∷ []
 
 -- and 512 bytes of 01
@@ -85,10 +85,11 @@ empty-list = refl
 
 -- ---- row 15 of "Lines to try on the bench": 1,024 words (of one byte), and 1,025
 
+-- what the first asks for
 abbrev pub most : Asked
 most = record { settings = settingsOf (128 ∷ 12 ∷ 3 ∷ 0 ∷ 0 ∷ 0 ∷ 0 ∷ []); z = replicate 512 0x01; words = replicate 1024 0 }
 
--- proofs/Written.antt proves it by the law on lists that are written: to compute it takes as long as all else in this crate
+-- proofs/Written.antt proves it by the law on lists that are written: to compute it takes longer than all else in this crate
 abbrev pub MostWords : Type 0
 MostWords = planOf (begun ++ 0x80 ∷ 0x08 ∷ replicate 1024 0x00) 512 256 3072 ≡ found most
 
