@@ -1,0 +1,95 @@
+-- The statements of specs/Refusals.antt, proved. Assumes nothing.
+use Prim.Native.Nat.{ℕ, _+_, _*_, _<_, _≤_}
+use native.Mathlib.Omega.{arith}
+use mathlib.Core.Path.{_≡_, refl, sym, ap, _∙_}
+use mathlib.Core.Bool.{true}
+use mathlib.Core.Logic.{_≢_}
+use mathlib.Core.List.{List}
+use lib.ListN.{length}
+use borrow.Author.Tests.{lt-leb, le-leb, eq-eqb, ne-eqb}
+use Rattle.laws.proofs.Tests.{failed}
+use Rattle.settings.specs.Valid.{validSettings}
+use Rattle.settings.specs.Refused.{refusalNumber}
+use Rattle.settings.specs.declared.Settings.{Settings}
+use Rattle.settings.proofs.Refusals.{not-0}
+use Rattle.words.specs.Says.{Described, As, Nothing, describe}
+use Rattle.words.specs.Decode.{enables, enabledOnly, noFields, decodeEnabled, decodePaper}
+use Rattle.words.specs.Partner.{partnerPaper}
+use Rattle.words.specs.declared.Fields.{Fields}
+use Rattle.words.proofs.Table.{described-exactly}
+use Rattle.words.proofs.Answers.{decodes-when, partner-not-valid}
+use Rattle.encoding.specs.Encode.{Encodes, bad-settings, no-word, not-enabled}
+use Rattle.encoding.proofs.Theorems.{encodes-unique}
+use Rattle.machine.specs.Execute.{Outcome}
+use Rattle.runlist.specs.Plan.{mostWords, zLength, settingsOf, wordsFrom, zFrom, settledFrom, planOf}
+use Rattle.runlist.specs.RunList.{Ended, runPaper}
+use Rattle.demands.proofs.Execution as execution
+use Rattle.demands.proofs.Lists as lists
+use Rattle.demanded.specs.Refusals.{DecodeInOrder, EncodeInOrder, PartnerInOrder, ListInOrder, ExecuteLeaves, RunLeaves}
+
+-- ---- decode
+
+-- what is not enabled is refused with 3
+not-enabled-3 : (features : ℕ) (d : Described) → ((f : Fields) → d ≡ As f → enables features f ≡ true → ⊥) → enabledOnly features d ≡ (3, noFields)
+not-enabled-3 features (As f) h = rw (failed (enables features f) (h f refl))
+not-enabled-3 features Nothing h = refl
+
+pub decode-in-order : (s : Settings) (w : ℕ) → DecodeInOrder s w
+unfolding decodePaper decodeEnabled
+decode-in-order s w =
+    record {
+      by-settings = λ v. rw v;
+      by-word = λ v none. rw v (not-enabled-3 (s .features .0) (describe w) (λ f e. none f (described-exactly w f .0 e)));
+    }
+
+-- ---- encode
+
+pub encode-in-order : (s : Settings) (f : Fields) (a : ℕ × ℕ) → Encodes s f a → EncodeInOrder s f a
+encode-in-order s f a e =
+    record {
+      by-settings = λ v. encodes-unique s f a (1, 0) e (bad-settings v);
+      by-fields = λ v n. encodes-unique s f a (5, 0) e (no-word v n);
+      by-feature = λ v w h n. encodes-unique s f a (3, 0) e (not-enabled v w h n);
+    }
+
+-- ---- partner
+
+pub partner-in-order : (s : Settings) (w : ℕ) → PartnerInOrder s w
+unfolding partnerPaper
+partner-in-order s w =
+    record {
+      by-settings = partner-not-valid s w;
+      by-word = λ v none. rw (decode-in-order s w .by-word v (λ f t e. none f (decodes-when s w f v .1 (t, e))));
+      by-family = λ f e c. rw (e, c);
+    }
+
+-- ---- lists
+
+module _ (list z za report : List ℕ) where
+  pub list-in-order : ListInOrder list z za report
+  unfolding runPaper planOf settledFrom zFrom wordsFrom
+  list-in-order =
+      record {
+        in-front = λ vs r p e. rw e;
+        by-settings = λ head at e v. rw (e, v);
+        by-lengths = λ head at e v l. rw (e, v, l);
+        in-z = λ head at t h. rw (t .front, t .valid, t .exact, lt-leb (at + zLength (settingsOf head)) (length list) h);
+        in-count = λ head at t h r p e. rw (t .front, t .valid, t .exact, le-leb (at + zLength (settingsOf head)) (length list) h, e);
+        by-count = λ head at n from c h. rw (c .lengths .front, c .lengths .valid, c .lengths .exact, le-leb (at + zLength (settingsOf head)) (length list) (c .z-there), c .count, lt-leb n mostWords h);
+        by-report = λ head at n from c h k. rw (c .lengths .front, c .lengths .valid, c .lengths .exact, le-leb (at + zLength (settingsOf head)) (length list) (c .z-there), c .count, le-leb n mostWords h, lt-leb (3 * n) (length report) k);
+        in-words = λ head at n from c h k vs r p e. rw (c .lengths .front, c .lengths .valid, c .lengths .exact, le-leb (at + zLength (settingsOf head)) (length list) (c .z-there), c .count, le-leb n mostWords h, le-leb (3 * n) (length report) k, e);
+        by-end = λ head at n from c h k ws p e u. rw (c .lengths .front, c .lengths .valid, c .lengths .exact, le-leb (at + zLength (settingsOf head)) (length list) (c .z-there), c .count, le-leb n mostWords h, le-leb (3 * n) (length report) k, e, ne-eqb p (length list) u);
+        accepted = λ head at n from c h k ws e. rw (c .lengths .front, c .lengths .valid, c .lengths .exact, le-leb (at + zLength (settingsOf head)) (length list) (c .z-there), c .count, le-leb n mostWords h, le-leb (3 * n) (length report) k, e, eq-eqb (length list) (length list) refl);
+      }
+
+-- ---- what a refused call leaves
+
+pub execute-leaves : ExecuteLeaves
+execute-leaves s w z za r z′ za′ e =
+    let k = execution.refused-keeps s w z za (λ n. not-0 r (ap (λ (o : Outcome). o .number) e ∙ n)) in
+    (ap (λ (o : Outcome). o .z) e ∙ k .0, ap (λ (o : Outcome). o .za) e ∙ k .1)
+
+pub run-leaves : RunLeaves
+run-leaves list z za report r p z′ za′ report′ e =
+    let k = lists.refused-keeps list z za report (λ n. not-0 r (ap (λ (o : Ended). o .number) e ∙ n)) in
+    (ap (λ (o : Ended). o .z) e ∙ k .0, ap (λ (o : Ended). o .za) e ∙ k .1, ap (λ (o : Ended). o .report) e ∙ k .2)
