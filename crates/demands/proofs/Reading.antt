@@ -1,4 +1,4 @@
--- What an accepted list is made of, what holds of a refused one, and that bytes far from the beginning change nothing. Assumes nothing.
+-- What an accepted list is parts-of of, what holds of a refused one, and that bytes far from the beginning change nothing. Assumes nothing.
 use Prim.Native.Nat.{ℕ, _+_, _*_, _≤_, _<_}
 use native.Mathlib.Omega.{arith}
 use mathlib.Core.Path.{_≡_, refl, sym, ap, ap₂, _∙_, subst}
@@ -22,28 +22,29 @@ use Rattle.numbers.proofs.Shortest.{put-length-1, put-length-2}
 use Rattle.numbers.proofs.Places.{number-far, number-within, number-fault}
 use Rattle.numbers.proofs.Rows.{row-count, row-within, row-far, row-fault, put-lengths-few, row-place}
 use Rattle.machine.specs.Execute.{rightLengths}
-use Rattle.runlist.specs.Plan.{Found, found, refused, Asked, mostWords, endedAt, afterCount, wordsFrom, asking, zLength, zFrom, settledFrom, settingsOf, headed, planOf}
+use Rattle.runlist.specs.Plan.{Lent, Found, found, refused, Asked, mostWords, endedAt, afterCount, wordsFrom, asking, zLength, zFrom, settledFrom, settingsOf, headed, planOf}
 use Rattle.runlist.proofs.Plans.{not-refused, z-right}
 use Rattle.demands.specs.Lists.{longest}
 
 -- the Z bytes, where their length is exact
-z-exact : (list : List ℕ) (room : ℕ) (s : Settings) (at z za : ℕ) → rightLengths s z za ≡ true
-    → zFrom list room s at ≡ cond (leb (at + z) (length list)) (asking s (take z (drop at list)) (wordsFrom list room (at + z))) (refused ListEnds at)
+z-exact : (list : List ℕ) (lent : Lent) (s : Settings) (at : ℕ) → rightLengths s (lent .z) (lent .za) ≡ true
+    → zFrom list lent s at
+    ≡ cond (leb (at + lent .z) (length list)) (asking s (take (lent .z) (drop at list)) (wordsFrom list lent (at + lent .z))) (refused ListEnds at)
 unfolding zFrom
-z-exact list room s at z za l = rw (z-right s z za l)
+z-exact list lent s at l = rw (z-right s lent l)
 
--- ---- what an accepted list is made of
+-- ---- what an accepted list is parts-of of
 
 -- a count at `at`, and as many words, with which the list ends
-pub record Worded (list : List ℕ) (room at : ℕ) (ws : List ℕ) : Type 0 where
+pub record Worded (list : List ℕ) (lent : Lent) (at : ℕ) (ws : List ℕ) : Type 0 where
   pub from : ℕ
   pub count : numberAt list at ≡ Number (length ws) from
   pub few : length ws ≤ mostWords
-  pub reported : 3 * length ws ≤ room
+  pub reported : 3 * length ws ≤ lent .report
   pub row : numbersAt list from (length ws) ≡ all ws (length list)
 
-module _ (list : List ℕ) (room at : ℕ) (ws : List ℕ) where
-  worded-end : (n p : ℕ) → numberAt list at ≡ Number n p → n ≤ mostWords → 3 * n ≤ room → (m : Numbers) → numbersAt list p n ≡ m → endedAt list m ≡ found ws → Worded list room at ws
+module _ (list : List ℕ) (lent : Lent) (at : ℕ) (ws : List ℕ) where
+  worded-end : (n p : ℕ) → numberAt list at ≡ Number n p → n ≤ mostWords → 3 * n ≤ lent .report → (m : Numbers) → numbersAt list p n ≡ m → endedAt list m ≡ found ws → Worded list lent at ws
   worded-end n p e h k (all vs q) f g =
       by-cond (eqb q (length list)) (found vs) (refused ExtraBytes q) (found ws)
       (λ t x.
@@ -60,37 +61,38 @@ module _ (list : List ℕ) (room at : ℕ) (ws : List ℕ) where
       g
   worded-end n p e h k (fault vs r q) f g = not-refused ws r q g
 
-  worded-number : (r : Read) → numberAt list at ≡ r → afterCount list room at r ≡ found ws → Worded list room at ws
+  worded-number : (r : Read) → numberAt list at ≡ r → afterCount list lent at r ≡ found ws → Worded list lent at ws
   worded-number (Number n p) e =
-      by-cond (leb n mostWords) (cond (leb (3 * n) room) (endedAt list (numbersAt list p n)) (refused BadLength 0)) (refused TooManyWords at) (found ws)
-      (λ h. by-cond (leb (3 * n) room) (endedAt list (numbersAt list p n)) (refused BadLength 0) (found ws)
-      (λ k. worded-end n p e (leb-true n mostWords h) (leb-true (3 * n) room k) (numbersAt list p n) refl)
+      by-cond (leb n mostWords) (cond (leb (3 * n) (lent .report)) (endedAt list (numbersAt list p n)) (refused BadLength 0)) (refused TooManyWords at) (found ws)
+      (λ h. by-cond (leb (3 * n) (lent .report)) (endedAt list (numbersAt list p n)) (refused BadLength 0) (found ws)
+      (λ k. worded-end n p e (leb-true n mostWords h) (leb-true (3 * n) (lent .report) k) (numbersAt list p n) refl)
       (λ k. not-refused ws BadLength 0))
       (λ h. not-refused ws TooManyWords at)
   worded-number (Fault r p) e = not-refused ws r p
 
-  worded : wordsFrom list room at ≡ found ws → Worded list room at ws
+  worded : wordsFrom list lent at ≡ found ws → Worded list lent at ws
   unfolding wordsFrom
   worded = worded-number (numberAt list at) refl
 
 -- "In order": seven numbers, the Z bytes, the count and the words
-pub record Made (list : List ℕ) (z za room : ℕ) (a : Asked) : Type 0 where
+pub record PartsOf (list : List ℕ) (lent : Lent) (a : Asked) : Type 0 where
   pub head : List ℕ
   pub at : ℕ
   pub header : numbersAt list 0 7 ≡ all head at
   pub settings-are : a .settings ≡ settingsOf head
   pub valid : validSettings (a .settings) ≡ true
-  pub exact : rightLengths (a .settings) z za ≡ true
-  pub there : at + z ≤ length list
-  pub z-are : a .z ≡ take z (drop at list)
-  pub words-are : Worded list room (at + z) (a .words)
+  pub exact : rightLengths (a .settings) (lent .z) (lent .za) ≡ true
+  pub there : at + lent .z ≤ length list
+  pub z-are : a .z ≡ take (lent .z) (drop at list)
+  pub words-are : Worded list lent (at + lent .z) (a .words)
 
-module _ (list : List ℕ) (z za room : ℕ) (a : Asked) where
-  module _ (head : List ℕ) (at : ℕ) (e : numbersAt list 0 7 ≡ all head at) (v : validSettings (settingsOf head) ≡ true) (l : rightLengths (settingsOf head) z za ≡ true) where
-    made-words : (w : Found (List ℕ)) → at + z ≤ length list → wordsFrom list room (at + z) ≡ w → asking (settingsOf head) (take z (drop at list)) w ≡ found a → Made list z za room a
-    made-words (found ws) h w g =
-        let is : record { settings = settingsOf head; z = take z (drop at list); words = ws } ≡ a = cc in
-        subst (Made list z za room) is
+module _ (list : List ℕ) (lent : Lent) (a : Asked) where
+  module _ (head : List ℕ) (at : ℕ) (e : numbersAt list 0 7 ≡ all head at) (v : validSettings (settingsOf head) ≡ true) (l : rightLengths (settingsOf head) (lent .z) (lent .za) ≡ true) where
+    parts-words : (w : Found (List ℕ)) → at + lent .z ≤ length list → wordsFrom list lent (at + lent .z) ≡ w → asking (settingsOf head) (take (lent .z) (drop at list)) w ≡ found a
+        → PartsOf list lent a
+    parts-words (found ws) h w g =
+        let is : record { settings = settingsOf head; z = take (lent .z) (drop at list); words = ws } ≡ a = cc in
+        subst (PartsOf list lent) is
         (record {
           head = head;
           at = at;
@@ -100,30 +102,30 @@ module _ (list : List ℕ) (z za room : ℕ) (a : Asked) where
           exact = l;
           there = h;
           z-are = refl;
-          words-are = worded list room (at + z) ws w;
+          words-are = worded list lent (at + lent .z) ws w;
         })
-    made-words (refused r p) h w g = not-refused a r p g
+    parts-words (refused r p) h w g = not-refused a r p g
 
-    made-z : zFrom list room (settingsOf head) at ≡ found a → Made list z za room a
-    made-z g =
-        by-cond (leb (at + z) (length list)) (asking (settingsOf head) (take z (drop at list)) (wordsFrom list room (at + z))) (refused ListEnds at) (found a)
-        (λ h. made-words (wordsFrom list room (at + z)) (leb-true (at + z) (length list) h) refl)
+    parts-z : zFrom list lent (settingsOf head) at ≡ found a → PartsOf list lent a
+    parts-z g =
+        by-cond (leb (at + lent .z) (length list)) (asking (settingsOf head) (take (lent .z) (drop at list)) (wordsFrom list lent (at + lent .z))) (refused ListEnds at) (found a)
+        (λ h. parts-words (wordsFrom list lent (at + lent .z)) (leb-true (at + lent .z) (length list) h) refl)
         (λ h. not-refused a ListEnds at)
-        (sym (z-exact list room (settingsOf head) at z za l) ∙ g)
+        (sym (z-exact list lent (settingsOf head) at l) ∙ g)
 
-  made-row : (m : Numbers) → numbersAt list 0 7 ≡ m → headed list z za room m ≡ found a → Made list z za room a
+  parts-row : (m : Numbers) → numbersAt list 0 7 ≡ m → headed list lent m ≡ found a → PartsOf list lent a
   unfolding settledFrom
-  made-row (all head at) e =
-      by-cond (validSettings (settingsOf head)) (cond (rightLengths (settingsOf head) z za) (zFrom list room (settingsOf head) at) (refused BadLength 0)) (refused BadSettings 0) (found a)
-      (λ v. by-cond (rightLengths (settingsOf head) z za) (zFrom list room (settingsOf head) at) (refused BadLength 0) (found a)
-      (λ l. made-z head at e v l)
+  parts-row (all head at) e =
+      by-cond (validSettings (settingsOf head)) (cond (rightLengths (settingsOf head) (lent .z) (lent .za)) (zFrom list lent (settingsOf head) at) (refused BadLength 0)) (refused BadSettings 0) (found a)
+      (λ v. by-cond (rightLengths (settingsOf head) (lent .z) (lent .za)) (zFrom list lent (settingsOf head) at) (refused BadLength 0) (found a)
+      (λ l. parts-z head at e v l)
       (λ l. not-refused a BadLength 0))
       (λ v. not-refused a BadSettings 0)
-  made-row (fault vs r p) e = not-refused a r p
+  parts-row (fault vs r p) e = not-refused a r p
 
-  pub made : planOf list z za room ≡ found a → Made list z za room a
+  pub parts-of : planOf list lent ≡ found a → PartsOf list lent a
   unfolding planOf
-  made = made-row (numbersAt list 0 7) refl
+  parts-of = parts-row (numbersAt list 0 7) refl
 
 -- ---- what holds of a refused list
 
@@ -133,17 +135,17 @@ Refusing Q (found a) = Unit {0}
 Refusing Q (refused r p) = Q r p
 
 -- what a list is refused for, and where: Q of each
-pub record Causes (list : List ℕ) (z za room : ℕ) (Q : Refusal → ℕ → Type 0) : Type 0 where
+pub record Causes (list : List ℕ) (lent : Lent) (Q : Refusal → ℕ → Type 0) : Type 0 where
   pub ends : (p : ℕ) → p ≤ length list → Q ListEnds p
   pub bad : (p : ℕ) → p ≤ length list → Q BadNumber p
   pub settings : Q BadSettings 0
   pub lengths : (head : List ℕ) (at : ℕ) → numbersAt list 0 7 ≡ all head at → validSettings (settingsOf head) ≡ true
-      → rightLengths (settingsOf head) z za ≡ false → Q BadLength 0
-  pub report : (n : ℕ) → n ≤ mostWords → room < 3 * n → Q BadLength 0
+      → rightLengths (settingsOf head) (lent .z) (lent .za) ≡ false → Q BadLength 0
+  pub report : (n : ℕ) → n ≤ mostWords → lent .report < 3 * n → Q BadLength 0
   pub many : (p : ℕ) → p ≤ length list → Q TooManyWords p
   pub extra : (p : ℕ) → p ≤ length list → Q ExtraBytes p
 
-module _ (list : List ℕ) (z za room : ℕ) (Q : Refusal → ℕ → Type 0) (c : Causes list z za room Q) where
+module _ (list : List ℕ) (lent : Lent) (Q : Refusal → ℕ → Type 0) (c : Causes list lent Q) where
   of-number : (r : Refusal) (p : ℕ) → p ≤ length list → (r ≡ ListEnds) ⊎ (r ≡ BadNumber) → Q r p
   of-number r p h = ⊎-elim (λ e. subst (λ (x : Refusal). Q x p) (sym e) (c .ends p h)) (λ e. subst (λ (x : Refusal). Q x p) (sym e) (c .bad p h))
 
@@ -152,12 +154,12 @@ module _ (list : List ℕ) (z za room : ℕ) (Q : Refusal → ℕ → Type 0) (c
       cond-holds (Refusing Q) (eqb p (length list)) (found ws) (refused ExtraBytes p) (λ t. tt) (λ t. c .extra p (row-within list at n ws p h e .1))
   by-end at n (fault vs r p) h e = let f = row-fault list at n vs r p h e in of-number r p (f .0) (f .1)
 
-  by-count : (at : ℕ) (r : Read) → at ≤ length list → numberAt list at ≡ r → Refusing Q (afterCount list room at r)
+  by-count : (at : ℕ) (r : Read) → at ≤ length list → numberAt list at ≡ r → Refusing Q (afterCount list lent at r)
   by-count at (Number n p) h e =
       cond-holds (Refusing Q) (leb n mostWords) _ (refused TooManyWords at)
-      (λ t. cond-holds (Refusing Q) (leb (3 * n) room) _ (refused BadLength 0)
+      (λ t. cond-holds (Refusing Q) (leb (3 * n) (lent .report)) _ (refused BadLength 0)
       (λ k. by-end p n (numbersAt list p n) (number-within list at n p e .inside) refl)
-      (λ k. c .report n (leb-true n mostWords t) (leb-false (3 * n) room k)))
+      (λ k. c .report n (leb-true n mostWords t) (leb-false (3 * n) (lent .report) k)))
       (λ t. c .many at h)
   by-count at (Fault r p) h e = let f = number-fault list at r p e in of-number r p (omega arith) (f .1)
 
@@ -165,26 +167,26 @@ module _ (list : List ℕ) (z za room : ℕ) (Q : Refusal → ℕ → Type 0) (c
   by-asking s bytes (found ws) h = tt
   by-asking s bytes (refused r p) h = h
 
-  by-z : (s : Settings) (at : ℕ) → at ≤ length list → Refusing Q (zFrom list room s at)
+  by-z : (s : Settings) (at : ℕ) → at ≤ length list → Refusing Q (zFrom list lent s at)
   unfolding zFrom wordsFrom
   by-z s at h =
       cond-holds (Refusing Q) (leb (at + zLength s) (length list)) _ (refused ListEnds at)
-      (λ t. by-asking s (take (zLength s) (drop at list)) (wordsFrom list room (at + zLength s))
+      (λ t. by-asking s (take (zLength s) (drop at list)) (wordsFrom list lent (at + zLength s))
       (by-count (at + zLength s) (numberAt list (at + zLength s)) (leb-true (at + zLength s) (length list) t) refl))
       (λ t. c .ends at h)
 
-  by-row : (m : Numbers) → numbersAt list 0 7 ≡ m → Refusing Q (headed list z za room m)
+  by-row : (m : Numbers) → numbersAt list 0 7 ≡ m → Refusing Q (headed list lent m)
   unfolding settledFrom
   by-row (all head at) e =
       cond-holds (Refusing Q) (validSettings (settingsOf head)) _ (refused BadSettings 0)
-      (λ v. cond-holds (Refusing Q) (rightLengths (settingsOf head) z za) _ (refused BadLength 0)
+      (λ v. cond-holds (Refusing Q) (rightLengths (settingsOf head) (lent .z) (lent .za)) _ (refused BadLength 0)
       (λ l. by-z (settingsOf head) at (row-within list 0 7 head at (omega arith) e .1))
       (λ l. c .lengths head at e v l))
       (λ v. c .settings)
   by-row (fault vs r p) e = let f = row-fault list 0 7 vs r p (omega arith) e in of-number r p (f .0) (f .1)
 
   -- what holds of each cause holds of the list's refusal
-  pub by-cause : (r : Refusal) (p : ℕ) → planOf list z za room ≡ refused r p → Q r p
+  pub by-cause : (r : Refusal) (p : ℕ) → planOf list lent ≡ refused r p → Q r p
   unfolding planOf
   by-cause r p e = subst (Refusing Q) e (by-row (numbersAt list 0 7) refl)
 
@@ -224,42 +226,43 @@ module _ (list t : List ℕ) where
       (ne-eqb p (length (list ++ t)) (λ (q : p ≡ length (list ++ t)). omega (arith, longer)) ∙ sym (ne-eqb p (length list) (λ (q : p ≡ length list). omega arith)))
   far-end (fault vs r p) at n h e = refl
 
-  far-count : (room at : ℕ) (r : Read) → at + 2 + mostWords * 5 < length list → numberAt list at ≡ r → afterCount (list ++ t) room at r ≡ afterCount list room at r
-  far-count room at (Number n p) h e =
+  far-count : (lent : Lent) (at : ℕ) (r : Read) → at + 2 + mostWords * 5 < length list → numberAt list at ≡ r → afterCount (list ++ t) lent at r ≡ afterCount list lent at r
+  far-count lent at (Number n p) h e =
       cond-then (leb n mostWords) _ _ (refused TooManyWords at)
-      (λ k. cond-then (leb (3 * n) room) _ _ (refused BadLength 0)
+      (λ k. cond-then (leb (3 * n) (lent .report)) _ _ (refused BadLength 0)
       (λ _.
       let few = leb-true n mostWords k in
       let w = number-within list at n p e in
       let room-left : p + 5 * n < length list = omega (arith, w .long, put-length-2 n (omega arith)) in
       ap (endedAt (list ++ t)) (row-far list t p n (omega arith)) ∙ far-end (numbersAt list p n) p n room-left refl))
-  far-count room at (Fault r p) h e = refl
+  far-count lent at (Fault r p) h e = refl
 
-  far-words : (room at : ℕ) → at + 2 + mostWords * 5 < length list → wordsFrom (list ++ t) room at ≡ wordsFrom list room at
+  far-words : (lent : Lent) (at : ℕ) → at + 2 + mostWords * 5 < length list → wordsFrom (list ++ t) lent at ≡ wordsFrom list lent at
   unfolding wordsFrom
-  far-words room at h = ap (afterCount (list ++ t) room at) (number-far list t at (omega arith)) ∙ far-count room at (numberAt list at) h refl
+  far-words lent at h = ap (afterCount (list ++ t) lent at) (number-far list t at (omega arith)) ∙ far-count lent at (numberAt list at) h refl
 
-  far-z : (room : ℕ) (s : Settings) (at z za : ℕ) → rightLengths s z za ≡ true → at + z + 2 + mostWords * 5 < length list
-      → zFrom (list ++ t) room s at ≡ zFrom list room s at
-  far-z room s at z za l h =
-      z-exact (list ++ t) room s at z za l
-      ∙ rw (le-leb (at + z) (length (list ++ t)) (omega (arith, longer)), le-leb (at + z) (length list) (omega arith))
-      (ap₂ (asking s) (ap (take z) (drop-append-le at list t (omega arith)) ∙ take-append-le z (drop at list) t (omega (arith, length-drop at list))) (far-words room (at + z) h))
-      ∙ sym (z-exact list room s at z za l)
+  far-z : (lent : Lent) (s : Settings) (at : ℕ) → rightLengths s (lent .z) (lent .za) ≡ true → at + lent .z + 2 + mostWords * 5 < length list
+      → zFrom (list ++ t) lent s at ≡ zFrom list lent s at
+  far-z lent s at l h =
+      z-exact (list ++ t) lent s at l
+      ∙ rw (le-leb (at + lent .z) (length (list ++ t)) (omega (arith, longer)), le-leb (at + lent .z) (length list) (omega arith))
+      (ap₂ (asking s) (ap (take (lent .z)) (drop-append-le at list t (omega arith)) ∙ take-append-le (lent .z) (drop at list) t (omega (arith, length-drop at list)))
+      (far-words lent (at + lent .z) h))
+      ∙ sym (z-exact list lent s at l)
 
-  far-row : (z za room : ℕ) (m : Numbers) → longest < length list → numbersAt list 0 7 ≡ m → headed (list ++ t) z za room m ≡ headed list z za room m
+  far-row : (lent : Lent) (m : Numbers) → longest < length list → numbersAt list 0 7 ≡ m → headed (list ++ t) lent m ≡ headed list lent m
   unfolding settledFrom
-  far-row z za room (all head at) h e =
+  far-row lent (all head at) h e =
       cond-then (validSettings (settingsOf head)) _ _ (refused BadSettings 0)
-      (λ v. cond-then (rightLengths (settingsOf head) z za) _ _ (refused BadLength 0)
+      (λ v. cond-then (rightLengths (settingsOf head) (lent .z) (lent .za)) _ _ (refused BadLength 0)
       (λ l.
       let begins = row-place list 0 7 head at e in
       let short = head-few head (row-count list 0 7 head at e) v in
       let bytes = vector-at-most (settingsOf head) v in
-      let is = z-right (settingsOf head) z za l in
-      far-z room (settingsOf head) at z za l (omega arith)))
-  far-row z za room (fault vs r p) h e = refl
+      let is = z-right (settingsOf head) lent l in
+      far-z lent (settingsOf head) at l (omega arith)))
+  far-row lent (fault vs r p) h e = refl
 
-  pub far : (z za room : ℕ) → longest < length list → planOf (list ++ t) z za room ≡ planOf list z za room
+  pub far : (lent : Lent) → longest < length list → planOf (list ++ t) lent ≡ planOf list lent
   unfolding planOf
-  far z za room h = ap (headed (list ++ t) z za room) (row-far list t 0 7 (omega arith)) ∙ far-row z za room (numbersAt list 0 7) h refl
+  far lent h = ap (headed (list ++ t) lent) (row-far list t 0 7 (omega arith)) ∙ far-row lent (numbersAt list 0 7) h refl

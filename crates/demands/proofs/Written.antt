@@ -17,11 +17,11 @@ use Rattle.numbers.specs.declared.Read.the-variants.{Number}
 use Rattle.numbers.proofs.Places.{number-put}
 use Rattle.numbers.proofs.Rows.{row-count}
 use Rattle.numbers.proofs.Forms.{number-form, row-form, row-put}
-use Rattle.runlist.specs.Plan.{Found, found, Asked, endedAt, wordsFrom, asking, settledFrom, settingsOf, headed, planOf}
+use Rattle.runlist.specs.Plan.{Lent, Found, found, Asked, endedAt, wordsFrom, asking, settledFrom, settingsOf, headed, planOf}
 use Rattle.runlist.proofs.Plans.{words-counted, z-read}
-use Rattle.demands.specs.Lists.{longest, Fits, numbersOf, written, Askable, WrittenIsRead, OneList, LongestReached}
-use Rattle.demands.specs.ListExamples.{begun, most, MostWords}
-use Rattle.demands.proofs.Reading.{made}
+use Rattle.demands.specs.Lists.{longest, FitsLent, numbersOf, listOf, Askable, WrittenIsRead, OneList, LongestReached}
+use Rattle.demands.specs.ListExamples.{lentWith, beforeCount, mostAsked, MostWords}
+use Rattle.demands.proofs.Reading.{parts-of}
 
 -- ---- settings and their seven numbers
 
@@ -36,24 +36,24 @@ numbers-back head h = elements-are 7 0 head (sym h)
 -- ---- there is one way to write it
 
 pub one-list : OneList
-unfolding written
-one-list list z za room a e =
-    let m = made list z za room a e in
+unfolding listOf
+one-list list lent a e =
+    let m = parts-of list lent a e in
     let w = m .words-are in
     let numbers : m .head ≡ numbersOf (a .settings) =
     sym (ap numbersOf (m .settings-are) ∙ numbers-back (m .head) (row-count list 0 7 (m .head) (m .at) (m .header))) in
-    let behind : drop (m .at) list ≡ a .z ++ drop (m .at + z) list =
-    sym (take-append-drop z (drop (m .at) list)) ∙ ap₂ (λ (x y : List ℕ). x ++ y) (sym (m .z-are)) (drop-drop z (m .at) list) in
-    let counted : drop (m .at + z) list ≡ put (length (a .words)) ++ drop (w .from) list = number-form list (m .at + z) (length (a .words)) (w .from) (w .count) in
+    let behind : drop (m .at) list ≡ a .z ++ drop (m .at + lent .z) list =
+    sym (take-append-drop (lent .z) (drop (m .at) list)) ∙ ap₂ (λ (x y : List ℕ). x ++ y) (sym (m .z-are)) (drop-drop (lent .z) (m .at) list) in
+    let count : drop (m .at + lent .z) list ≡ put (length (a .words)) ++ drop (w .from) list = number-form list (m .at + lent .z) (length (a .words)) (w .from) (w .count) in
     let words : drop (w .from) list ≡ puts (a .words) =
     row-form list (w .from) (length (a .words)) (a .words) (length list) (w .row) ∙ ap (λ (x : List ℕ). puts (a .words) ++ x) (drop-length list) ∙ append-nil (puts (a .words)) in
     row-form list 0 7 (m .head) (m .at) (m .header)
     ∙ ap₂ (λ (h t : List ℕ). puts h ++ t) numbers
-    (behind ∙ ap (λ (t : List ℕ). a .z ++ t) (counted ∙ ap (λ (t : List ℕ). put (length (a .words)) ++ t) words))
+    (behind ∙ ap (λ (t : List ℕ). a .z ++ t) (count ∙ ap (λ (t : List ℕ). put (length (a .words)) ++ t) words))
 
 -- ---- what is written is read
 
-module _ (z za room : ℕ) (a : Asked) (k : Askable z za room a) where
+module _ (lent : Lent) (a : Asked) (k : Askable lent a) where
   head : List ℕ
   head = puts (numbersOf (a .settings))
 
@@ -61,17 +61,17 @@ module _ (z za room : ℕ) (a : Asked) (k : Askable z za room a) where
   behind = put (length (a .words)) ++ puts (a .words)
 
   -- up to the count, and up to the words
-  to-count : written a ≡ (head ++ a .z) ++ behind
-  unfolding written head behind
+  to-count : listOf a ≡ (head ++ a .z) ++ behind
+  unfolding listOf head behind
   to-count = sym (append-assoc head (a .z) behind)
 
-  to-words : written a ≡ ((head ++ a .z) ++ put (length (a .words))) ++ (puts (a .words) ++ [])
+  to-words : listOf a ≡ ((head ++ a .z) ++ put (length (a .words))) ++ (puts (a .words) ++ [])
   unfolding behind
   to-words =
       to-count ∙ sym (append-assoc (head ++ a .z) (put (length (a .words))) (puts (a .words)))
       ∙ ap (λ (t : List ℕ). ((head ++ a .z) ++ put (length (a .words))) ++ t) (sym (append-nil (puts (a .words))))
 
-  count-place : length (head ++ a .z) ≡ length head + z
+  count-place : length (head ++ a .z) ≡ length head + lent .z
   count-place = length-append head (a .z) ∙ ap (λ (n : ℕ). length head + n) (k .fits .z-bytes)
 
   words-place : ℕ
@@ -80,13 +80,13 @@ module _ (z za room : ℕ) (a : Asked) (k : Askable z za room a) where
   small-count : length (a .words) < 4294967296
   small-count = omega (arith, k .fits .few)
 
-  count-is : numberAt (written a) (length head + z) ≡ Number (length (a .words)) words-place
+  count-is : numberAt (listOf a) (length head + lent .z) ≡ Number (length (a .words)) words-place
   unfolding words-place behind
   count-is =
       ap₂ numberAt to-count (sym count-place) ∙ number-put (head ++ a .z) (length (a .words)) (puts (a .words)) small-count
       ∙ ap (Number (length (a .words))) (sym (length-append (head ++ a .z) (put (length (a .words)))))
 
-  words-are : numbersAt (written a) words-place (length (a .words)) ≡ all (a .words) (length (written a))
+  words-are : numbersAt (listOf a) words-place (length (a .words)) ≡ all (a .words) (length (listOf a))
   unfolding words-place
   words-are =
       ap (λ (l : List ℕ). numbersAt l words-place (length (a .words))) to-words
@@ -94,36 +94,36 @@ module _ (z za room : ℕ) (a : Asked) (k : Askable z za room a) where
       ∙ ap (all (a .words))
       (sym (ap length to-words ∙ length-append ((head ++ a .z) ++ put (length (a .words))) (puts (a .words) ++ []) ∙ ap (λ (l : List ℕ). words-place + length l) (append-nil (puts (a .words)))))
 
-  words-read : found (a .words) ≡ wordsFrom (written a) room (length head + z)
+  words-read : found (a .words) ≡ wordsFrom (listOf a) lent (length head + lent .z)
   words-read =
-      sym (ap (endedAt (written a)) words-are ∙ simp (eq-eqb (length (written a)) (length (written a)) refl))
-      ∙ words-counted (written a) room (length head + z) (length (a .words)) words-place count-is (k .fits .few) (k .fits .reported)
+      sym (ap (endedAt (listOf a)) words-are ∙ simp (eq-eqb (length (listOf a)) (length (listOf a)) refl))
+      ∙ words-counted (listOf a) lent (length head + lent .z) (length (a .words)) words-place count-is (k .fits .few) (k .fits .reported)
 
-  header-is : numbersAt (written a) 0 7 ≡ all (numbersOf (a .settings)) (length head)
-  unfolding written head behind
+  header-is : numbersAt (listOf a) 0 7 ≡ all (numbersOf (a .settings)) (length head)
+  unfolding listOf head behind
   header-is =
-      ap (numbersAt (written a) 0) (sym (ap (λ (n : ℕ). suc (suc (suc n))) (k .four)))
+      ap (numbersAt (listOf a) 0) (sym (ap (λ (n : ℕ). suc (suc (suc n))) (k .four)))
       ∙ row-put [] (numbersOf (a .settings)) (a .z ++ behind) (k .numbers)
       ∙ ap (all (numbersOf (a .settings))) (zero-add (length head))
 
-  z-is : a .z ≡ take z (drop (length head) (written a))
-  unfolding written head behind
+  z-is : a .z ≡ take (lent .z) (drop (length head) (listOf a))
+  unfolding listOf head behind
   z-is =
-      sym (ap (take z) (drop-append-seam head (a .z ++ behind)) ∙ take-at (a .z) behind z (k .fits .z-bytes))
+      sym (ap (take (lent .z)) (drop-append-seam head (a .z ++ behind)) ∙ take-at (a .z) behind (lent .z) (k .fits .z-bytes))
 
-  inside : length head + z ≤ length (written a)
+  inside : length head + lent .z ≤ length (listOf a)
   inside = omega (arith, ap length to-count, length-append (head ++ a .z) behind, count-place)
 
-  is-read : planOf (written a) z za room ≡ found a
+  is-read : planOf (listOf a) lent ≡ found a
   unfolding planOf
   is-read =
-      ap (headed (written a) z za room) header-is
-      ∙ ap (λ (s : Settings). settledFrom (written a) z za room s (length head)) (settings-back (a .settings) (k .four))
-      ∙ sym (z-read (written a) z za room (a .settings) (length head) (k .fits .valid) (k .fits .exact) inside)
+      ap (headed (listOf a) lent) header-is
+      ∙ ap (λ (s : Settings). settledFrom (listOf a) lent s (length head)) (settings-back (a .settings) (k .four))
+      ∙ sym (z-read (listOf a) lent (a .settings) (length head) (k .fits .valid) (k .fits .exact) inside)
       ∙ ap₂ (λ (y : List ℕ) (w : Found (List ℕ)). asking (a .settings) y w) (sym z-is) (sym words-read)
 
 pub written-is-read : WrittenIsRead
-written-is-read z za room a k = is-read z za room a k
+written-is-read lent a k = is-read lent a k
 
 -- ---- lists filled with one number
 
@@ -132,8 +132,8 @@ each-replicate P zero x h = tt
 each-replicate P (suc n) x h = (h, each-replicate P n x h)
 
 -- W8 to W11 are all w, and the n words all x
-filled : (vl features modes w : ℕ) (z : List ℕ) (n x : ℕ) → Asked
-filled vl features modes w z n x =
+alike : (vl features modes w : ℕ) (z : List ℕ) (n x : ℕ) → Asked
+alike vl features modes w z n x =
     record {
       settings = record { vl = vl; features = record { 0 = features }; modes = record { 0 = modes }; select = replicate 4 w };
       z = z;
@@ -141,12 +141,12 @@ filled vl features modes w z n x =
     }
 
 -- where it fits, it is understood
-filled-read : (vl features modes w : ℕ) (b : List ℕ) (n x z za room : ℕ) → vl < 2 ^ 32 → features < 2 ^ 32 → modes < 2 ^ 32 → w < 2 ^ 32 → x < 2 ^ 32
-    → Fits z za room (filled vl features modes w b n x)
-    → planOf (written (filled vl features modes w b n x)) z za room ≡ found (filled vl features modes w b n x)
-unfolding filled
-filled-read vl features modes w b n x z za room hv hf hm hw hx fits =
-    written-is-read z za room (filled vl features modes w b n x)
+alike-read : (vl features modes w : ℕ) (b : List ℕ) (n x : ℕ) (lent : Lent) → vl < 2 ^ 32 → features < 2 ^ 32 → modes < 2 ^ 32 → w < 2 ^ 32 → x < 2 ^ 32
+    → FitsLent lent (alike vl features modes w b n x)
+    → planOf (listOf (alike vl features modes w b n x)) lent ≡ found (alike vl features modes w b n x)
+unfolding alike
+alike-read vl features modes w b n x lent hv hf hm hw hx fits =
+    written-is-read lent (alike vl features modes w b n x)
     record {
       fits = fits;
       four = refl;
@@ -156,31 +156,31 @@ filled-read vl features modes w b n x z za room hv hf hm hw hx fits =
 
 -- ---- the longest list: W8 to W11 and all words have five bytes
 
-greatest : Asked
-greatest = filled 512 0 0 4294967295 (replicate 2048 0) 1024 4294967295
+longestAsked : Asked
+longestAsked = alike 512 0 0 4294967295 (replicate 2048 0) 1024 4294967295
 
-greatest-read : planOf (written greatest) 2048 4096 3072 ≡ found greatest
-unfolding greatest filled validSettings vectorBytes arrayBytes
-greatest-read =
-    filled-read 512 0 0 4294967295 (replicate 2048 0) 1024 4294967295 2048 4096 3072 (lit< tt) (lit< tt) (lit< tt) (lit< tt) (lit< tt)
+longest-read : planOf (listOf longestAsked) (record { z = 2048; za = 4096; report = 3072 }) ≡ found longestAsked
+unfolding longestAsked alike validSettings vectorBytes arrayBytes
+longest-read =
+    alike-read 512 0 0 4294967295 (replicate 2048 0) 1024 4294967295 (record { z = 2048; za = 4096; report = 3072 }) (lit< tt) (lit< tt) (lit< tt) (lit< tt) (lit< tt)
     record { valid = refl; exact = refl; z-bytes = refl; few = lit≤ tt; reported = lit≤ tt }
 
-greatest-long : length (written greatest) ≡ longest
-unfolding greatest filled written puts put putIn
-greatest-long = refl
+longest-long : length (listOf longestAsked) ≡ longest
+unfolding longestAsked alike listOf puts put putIn
+longest-long = refl
 
 pub longest-reached : LongestReached
-longest-reached = (greatest, greatest-read, greatest-long)
+longest-reached = (longestAsked, longest-read, longest-long)
 
 -- ---- row 15: 1,024 words
 
-most-written : begun ++ 0x80 ∷ 0x08 ∷ replicate 1024 0x00 ≡ written most
-unfolding settingsOf written puts put putIn
+most-written : beforeCount ++ 0x80 ∷ 0x08 ∷ replicate 1024 0x00 ≡ listOf mostAsked
+unfolding settingsOf listOf puts put putIn
 most-written = refl
 
 pub most-words : MostWords
-unfolding filled settingsOf validSettings vectorBytes arrayBytes
+unfolding alike settingsOf validSettings vectorBytes arrayBytes
 most-words =
-    ap (λ (l : List ℕ). planOf l 512 256 3072) most-written
-    ∙ filled-read 128 12 3 0 (replicate 512 0x01) 1024 0 512 256 3072 (lit< tt) (lit< tt) (lit< tt) (lit< tt) (lit< tt)
+    ap (λ (l : List ℕ). planOf l (lentWith 3072)) most-written
+    ∙ alike-read 128 12 3 0 (replicate 512 0x01) 1024 0 (lentWith 3072) (lit< tt) (lit< tt) (lit< tt) (lit< tt) (lit< tt)
     record { valid = refl; exact = refl; z-bytes = refl; few = lit≤ tt; reported = lit≤ tt }

@@ -18,7 +18,7 @@ use Rattle.recipes.specs.Element.{newElement, newBytes}
 use Rattle.machine.specs.Step.{stride, selected, firstVector, writesVector, newVector, zaAfter}
 use Rattle.machine.specs.Execute.{stepped, executeFields, executePaper}
 use Rattle.machine.specs.Run.{runOf}
-use Rattle.runlist.specs.Plan.{Asked, found, refused, wordsFrom, zFrom, settledFrom, settingsOf, planOf}
+use Rattle.runlist.specs.Plan.{Lent, Asked, found, refused, wordsFrom, zFrom, settledFrom, settingsOf, planOf}
 use Rattle.runlist.specs.RunList.{Ended, noTally, tallied, threes, refusedAt, runPaper}
 use Rattle.demands.specs.Lists.{longest}
 
@@ -28,16 +28,20 @@ longest-is = refl
 -- ---- document 01's list
 
 -- VL 128, features 12, modes 3, four zeros
-abbrev numbers : List ℕ
-numbers = 0x80 ∷ 0x01 ∷ 0x0C ∷ 0x03 ∷ 0x00 ∷ 0x00 ∷ 0x00 ∷ 0x00 ∷ []
+abbrev firstNumbers : List ℕ
+firstNumbers = 0x80 ∷ 0x01 ∷ 0x0C ∷ 0x03 ∷ 0x00 ∷ 0x00 ∷ 0x00 ∷ 0x00 ∷ []
 
 -- and 512 bytes of 01
-abbrev pub begun : List ℕ
-begun = numbers ++ replicate 512 0x01
+abbrev pub beforeCount : List ℕ
+beforeCount = firstNumbers ++ replicate 512 0x01
 
 -- C1A20008, 0E228020, C1A20000
-abbrev words : List ℕ
-words = 0x88 ∷ 0x80 ∷ 0x88 ∷ 0x8D ∷ 0x0C ∷ 0xA0 ∷ 0x80 ∷ 0x8A ∷ 0x71 ∷ 0x80 ∷ 0x80 ∷ 0x88 ∷ 0x8D ∷ 0x0C ∷ []
+abbrev threeWords : List ℕ
+threeWords = 0x88 ∷ 0x80 ∷ 0x88 ∷ 0x8D ∷ 0x0C ∷ 0xA0 ∷ 0x80 ∷ 0x8A ∷ 0x71 ∷ 0x80 ∷ 0x80 ∷ 0x88 ∷ 0x8D ∷ 0x0C ∷ []
+
+-- "VL 128, features 12, modes 3, four zeros, 512 bytes of 01, three words"
+abbrev pub paperList : List ℕ
+paperList = beforeCount ++ 0x03 ∷ threeWords
 
 -- Z, ZA and the report hold something else before a run
 abbrev lentZ : List ℕ
@@ -46,8 +50,8 @@ lentZ = replicate 512 0x5A
 abbrev lentZa : List ℕ
 lentZa = replicate 256 0xA5
 
-abbrev lent : ℕ → List ℕ
-lent n = replicate n 77
+abbrev lentReport : ℕ → List ℕ
+lentReport n = replicate n 77
 
 -- after a run that leaves ZA at zero
 abbrev ranWith : ℕ → Tally → List ℕ → Ended
@@ -55,7 +59,7 @@ ranWith n tally report = record { number = 0; place = 0; words = n; tally = tall
 
 -- the paper's list, with a report of n numbers
 abbrev paperRun : ℕ → Ended
-paperRun n = runPaper (begun ++ 0x03 ∷ words) lentZ lentZa (lent n)
+paperRun n = runPaper paperList lentZ lentZa (lentReport n)
 
 -- what it leaves; of a longer report the rest stays
 abbrev paperRan : List ℕ → Ended
@@ -63,7 +67,7 @@ paperRan rest = ranWith 3 (record { toggled = 2048; written = 2048 }) (0 ∷ 102
 
 -- the ZA that its first word alone leaves
 abbrev firstZa : List ℕ
-firstZa = runPaper (begun ++ 0x01 ∷ take 5 words) lentZ lentZa (lent 3) .za
+firstZa = runPaper (beforeCount ++ 0x01 ∷ take 5 threeWords) lentZ lentZa (lentReport 3) .za
 
 -- the first word leaves −1 in each element of vectors 0 to 3 and 8 to 11, which the third takes back
 words-run : (paperRun 9 ≡ paperRan []) × (paperRun 11 ≡ paperRan (77 ∷ 77 ∷ []))
@@ -74,83 +78,87 @@ unfolding runPaper planOf settingsOf settledFrom zFrom wordsFrom numbersAt numbe
     step laneStep accumulate product SInt Int low overBits overBytes
 words-run = (refl, refl, refl)
 
-no-words : runPaper (begun ++ 0x00 ∷ []) lentZ lentZa [] ≡ ranWith 0 noTally []
+no-words : runPaper (beforeCount ++ 0x00 ∷ []) lentZ lentZa [] ≡ ranWith 0 noTally []
 unfolding runPaper planOf settingsOf settledFrom zFrom wordsFrom numbersAt numberAt numeral runOf tallied threes validSettings vectorBytes arrayBytes
 no-words = refl
 
 -- a refused list: every lent buffer keeps its contents
-empty-list : runPaper [] lentZ lentZa (lent 2) ≡ refusedAt 7 0 lentZ lentZa (lent 2)
+empty-list : runPaper [] lentZ lentZa (lentReport 2) ≡ refusedAt 7 0 lentZ lentZa (lentReport 2)
 unfolding runPaper planOf numbersAt numberAt numeral
 empty-list = refl
+
+-- Z and ZA as long as VL 128 asks for, and a report of n numbers
+abbrev pub lentWith : ℕ → Lent
+lentWith n = record { z = 512; za = 256; report = n }
 
 -- ---- row 15 of "Lines to try on the bench": 1,024 words (of one byte), and 1,025
 
 -- what the first asks for
-abbrev pub most : Asked
-most = record { settings = settingsOf (128 ∷ 12 ∷ 3 ∷ 0 ∷ 0 ∷ 0 ∷ 0 ∷ []); z = replicate 512 0x01; words = replicate 1024 0 }
+abbrev pub mostAsked : Asked
+mostAsked = record { settings = settingsOf (128 ∷ 12 ∷ 3 ∷ 0 ∷ 0 ∷ 0 ∷ 0 ∷ []); z = replicate 512 0x01; words = replicate 1024 0 }
 
 -- proofs/Written.antt proves it by the law on lists that are written: to compute it takes longer than all else in this crate
 abbrev pub MostWords : Type 0
-MostWords = planOf (begun ++ 0x80 ∷ 0x08 ∷ replicate 1024 0x00) 512 256 3072 ≡ found most
+MostWords = planOf (beforeCount ++ 0x80 ∷ 0x08 ∷ replicate 1024 0x00) (lentWith 3072) ≡ found mostAsked
 
-one-too-many : planOf (begun ++ 0x81 ∷ 0x08 ∷ replicate 1025 0x00) 512 256 3075 ≡ refused TooManyWords 520
+one-too-many : planOf (beforeCount ++ 0x81 ∷ 0x08 ∷ replicate 1025 0x00) (lentWith 3075) ≡ refused TooManyWords 520
 unfolding planOf settingsOf settledFrom zFrom wordsFrom numbersAt numberAt numeral validSettings vectorBytes arrayBytes
 one-too-many = refl
 
 -- ---- lists that are refused
 
--- a list, with Z of 512 and ZA of 256 bytes and a report of so many numbers; why it is refused, and where
-record Line : Type 0 where
+-- a list, and how many numbers the report has; why it is refused, and where
+record RefusedList : Type 0 where
   pub list : List ℕ
-  pub room : ℕ
+  pub report : ℕ
   pub refusal : Refusal
   pub place : ℕ
 
-abbrev line : List ℕ → ℕ → Refusal → ℕ → Line
-line list room refusal place = record { list = list; room = room; refusal = refusal; place = place }
+abbrev refusing : List ℕ → ℕ → Refusal → ℕ → RefusedList
+refusing list report refusal place = record { list = list; report = report; refusal = refusal; place = place }
 
-abbrev table : List Line
-table =
+abbrev refusedLists : List RefusedList
+refusedLists =
     -- 7: before a number, inside one, before the Z bytes, inside them, before n, before a word, inside one
-    line [] 9 ListEnds 0
-    ∷ line (take 3 numbers) 9 ListEnds 3
-    ∷ line (0x80 ∷ 0x01 ∷ 0x8C ∷ []) 9 ListEnds 2
-    ∷ line numbers 9 ListEnds 8
-    ∷ line (numbers ++ replicate 511 0x01) 9 ListEnds 8
-    ∷ line begun 9 ListEnds 520
-    ∷ line (begun ++ 0x03 ∷ take 9 words) 9 ListEnds 530
-    ∷ line (begun ++ 0x03 ∷ take 13 words) 9 ListEnds 530
+    refusing [] 9 ListEnds 0
+    ∷ refusing (take 3 firstNumbers) 9 ListEnds 3
+    ∷ refusing (0x80 ∷ 0x01 ∷ 0x8C ∷ []) 9 ListEnds 2
+    ∷ refusing firstNumbers 9 ListEnds 8
+    ∷ refusing (firstNumbers ++ replicate 511 0x01) 9 ListEnds 8
+    ∷ refusing beforeCount 9 ListEnds 520
+    ∷ refusing (beforeCount ++ 0x03 ∷ take 9 threeWords) 9 ListEnds 530
+    ∷ refusing (beforeCount ++ 0x03 ∷ take 13 threeWords) 9 ListEnds 530
     -- 8, at the number's first byte: modes in two bytes, n in two, the fifth byte of the first word, the last of the second
-    ∷ line (0x80 ∷ 0x01 ∷ 0x0C ∷ 0x83 ∷ 0x00 ∷ []) 9 BadNumber 3
-    ∷ line (begun ++ 0x83 ∷ 0x00 ∷ words) 9 BadNumber 520
-    ∷ line (begun ++ 0x03 ∷ 0x88 ∷ 0x80 ∷ 0x88 ∷ 0x8D ∷ 0x10 ∷ []) 9 BadNumber 521
-    ∷ line (begun ++ 0x03 ∷ take 5 words ++ 0xA0 ∷ 0x80 ∷ 0x00 ∷ []) 9 BadNumber 526
+    ∷ refusing (0x80 ∷ 0x01 ∷ 0x0C ∷ 0x83 ∷ 0x00 ∷ []) 9 BadNumber 3
+    ∷ refusing (beforeCount ++ 0x83 ∷ 0x00 ∷ threeWords) 9 BadNumber 520
+    ∷ refusing (beforeCount ++ 0x03 ∷ 0x88 ∷ 0x80 ∷ 0x88 ∷ 0x8D ∷ 0x10 ∷ []) 9 BadNumber 521
+    ∷ refusing (beforeCount ++ 0x03 ∷ take 5 threeWords ++ 0xA0 ∷ 0x80 ∷ 0x00 ∷ []) 9 BadNumber 526
     -- 1, once W11 is read: VL 129; modes without SME
-    ∷ line (0x81 ∷ 0x01 ∷ 0x0C ∷ 0x03 ∷ 0x00 ∷ 0x00 ∷ 0x00 ∷ []) 9 ListEnds 7
-    ∷ line (0x81 ∷ 0x01 ∷ 0x0C ∷ 0x03 ∷ 0x00 ∷ 0x00 ∷ 0x00 ∷ 0x00 ∷ []) 9 BadSettings 0
-    ∷ line (0x80 ∷ 0x01 ∷ 0x03 ∷ 0x03 ∷ 0x00 ∷ 0x00 ∷ 0x00 ∷ 0x00 ∷ []) 9 BadSettings 0
+    ∷ refusing (0x81 ∷ 0x01 ∷ 0x0C ∷ 0x03 ∷ 0x00 ∷ 0x00 ∷ 0x00 ∷ []) 9 ListEnds 7
+    ∷ refusing (0x81 ∷ 0x01 ∷ 0x0C ∷ 0x03 ∷ 0x00 ∷ 0x00 ∷ 0x00 ∷ 0x00 ∷ []) 9 BadSettings 0
+    ∷ refusing (0x80 ∷ 0x01 ∷ 0x03 ∷ 0x03 ∷ 0x00 ∷ 0x00 ∷ 0x00 ∷ 0x00 ∷ []) 9 BadSettings 0
     -- 2: VL 256 has Z of 1,024 bytes
-    ∷ line (0x80 ∷ 0x02 ∷ 0x0C ∷ 0x03 ∷ 0x00 ∷ 0x00 ∷ 0x00 ∷ 0x00 ∷ []) 9 BadLength 0
+    ∷ refusing (0x80 ∷ 0x02 ∷ 0x0C ∷ 0x03 ∷ 0x00 ∷ 0x00 ∷ 0x00 ∷ 0x00 ∷ []) 9 BadLength 0
     -- 9 with no words behind it, and where the report is too short as well
-    ∷ line (begun ++ 0x81 ∷ 0x08 ∷ []) 3075 TooManyWords 520
-    ∷ line (begun ++ 0x81 ∷ 0x08 ∷ []) 9 TooManyWords 520
+    ∷ refusing (beforeCount ++ 0x81 ∷ 0x08 ∷ []) 3075 TooManyWords 520
+    ∷ refusing (beforeCount ++ 0x81 ∷ 0x08 ∷ []) 9 TooManyWords 520
     -- 2: the report of 9 numbers is too short for four words, and is tested before the first of them is read; that of 12 is not
-    ∷ line (begun ++ 0x04 ∷ []) 9 BadLength 0
-    ∷ line (begun ++ 0x04 ∷ []) 12 ListEnds 521
+    ∷ refusing (beforeCount ++ 0x04 ∷ []) 9 BadLength 0
+    ∷ refusing (beforeCount ++ 0x04 ∷ []) 12 ListEnds 521
     -- 10
-    ∷ line (begun ++ 0x03 ∷ words ++ 0x00 ∷ []) 9 ExtraBytes 535
-    ∷ line (begun ++ 0x02 ∷ words) 9 ExtraBytes 530
+    ∷ refusing (paperList ++ 0x00 ∷ []) 9 ExtraBytes 535
+    ∷ refusing (beforeCount ++ 0x02 ∷ threeWords) 9 ExtraBytes 530
     ∷ []
 
-refusals-hold : map (λ (l : Line). planOf (l .list) 512 256 (l .room)) table ≡ map (λ (l : Line). refused (l .refusal) (l .place)) table
+refusals-hold : map (λ (l : RefusedList). planOf (l .list) (lentWith (l .report))) refusedLists ≡ map (λ (l : RefusedList). refused (l .refusal) (l .place)) refusedLists
 unfolding planOf settingsOf settledFrom zFrom wordsFrom numbersAt numberAt numeral validSettings vectorBytes arrayBytes
 refusals-hold = refl
 
 -- 2, with the paper's list: Z and ZA of a byte too few
-short-z : planOf (begun ++ 0x03 ∷ words) 511 256 9 ≡ refused BadLength 0
+short-z : planOf paperList (record { z = 511; za = 256; report = 9 }) ≡ refused BadLength 0
 unfolding planOf settingsOf settledFrom numbersAt numberAt numeral validSettings vectorBytes arrayBytes
 short-z = refl
 
-short-za : planOf (begun ++ 0x03 ∷ words) 512 255 9 ≡ refused BadLength 0
+short-za : planOf paperList (record { z = 512; za = 255; report = 9 }) ≡ refused BadLength 0
 unfolding planOf settingsOf settledFrom numbersAt numberAt numeral validSettings vectorBytes arrayBytes
 short-za = refl

@@ -11,7 +11,7 @@ use Rattle.settings.specs.declared.Settings.{Settings}
 use Rattle.settings.proofs.Refusals.{not-0, tests-not-0}
 use Rattle.tally.specs.declared.Tally.{Tally}
 use Rattle.numbers.specs.Numbers.{numbersAt}
-use Rattle.runlist.specs.Plan.{Found, found, refused, Asked, mostWords, endedAt, asking, planOf}
+use Rattle.runlist.specs.Plan.{Lent, lengthsOf, Found, found, refused, Asked, mostWords, endedAt, asking, planOf}
 use Rattle.runlist.specs.Rooms.{wordsSay, frontSays}
 use Rattle.runlist.specs.RunList.{Ended, carriedOut, runPaper, runSays, RunPromise}
 use Rattle.runlist.specs.declared.Words.{Words}
@@ -25,19 +25,19 @@ use Rattle.lamp.specs.Lamp.{wordsOf, textOf, linesOf, WordsAgain}
 
 -- ---- the words, read again
 
-module _ (list : List ℕ) (z za room : ℕ) (s : Settings) where
-  pub none-again : (r : Refusal) (p : ℕ) (ws : List ℕ) → refused r p ≡ planOf list z za room → WordsAgain list z za room ws
+module _ (list : List ℕ) (lent : Lent) (s : Settings) where
+  pub none-again : (r : Refusal) (p : ℕ) (ws : List ℕ) → refused r p ≡ planOf list lent → WordsAgain list lent ws
   none-again r p ws e a q = not-refused a r p (e ∙ q)
 
   -- they were read into the front of a room
-  pub words-again : (at from n : ℕ) → frontSays (begun.Words at from n) s list z ≡ planOf list z za room
-      → (r : Words) (part rest : List ℕ) → wordsSay r part ≡ endedAt list (numbersAt list from n) → WordsAgain list z za room (part ++ rest)
+  pub words-again : (at from n : ℕ) → frontSays (begun.Words at from n) s list (lent .z) ≡ planOf list lent
+      → (r : Words) (part rest : List ℕ) → wordsSay r part ≡ endedAt list (numbersAt list from n) → WordsAgain list lent (part ++ rest)
   unfolding wordsOf
   words-again at from n e words.Read part rest d a q =
-      let is : part ≡ a .words = ap wordsOf (ap (asking s (take z (drop at list))) d ∙ e ∙ q) in
+      let is : part ≡ a .words = ap wordsOf (ap (asking s (take (lent .z) (drop at list))) d ∙ e ∙ q) in
       take-at part rest (length (a .words)) (ap length is) ∙ is
   words-again at from n e (words.Refused r p) part rest d a q =
-      not-refused a r p (ap (asking s (take z (drop at list))) d ∙ e ∙ q)
+      not-refused a r p (ap (asking s (take (lent .z) (drop at list))) d ∙ e ∙ q)
 
 -- ---- a list that ran was accepted
 
@@ -52,14 +52,14 @@ ran-of (refused r p) n t z za report z′ za′ report′ e =
     absurd (not-0 r (sym (ap (λ (o : Ended). o .number) e)))
 
 module _ (list z za report z′ za′ report′ : List ℕ) where
-  pub accepted : (n : ℕ) (t : Tally) → RunPromise list z za report (Ran n t) z′ za′ report′ → RanOf (planOf list (length z) (length za) (length report)) n
+  pub accepted : (n : ℕ) (t : Tally) → RunPromise list z za report (Ran n t) z′ za′ report′ → RanOf (planOf list (lengthsOf z za report)) n
   unfolding runPaper
-  accepted n t e = ran-of (planOf list (length z) (length za) (length report)) n t z za report z′ za′ report′ e
+  accepted n t e = ran-of (planOf list (lengthsOf z za report)) n t z za report z′ za′ report′ e
 
   -- ---- the text
 
   pub text-ran : (n : ℕ) (t : Tally) (ws : List ℕ) → RunPromise list z za report (Ran n t) z′ za′ report′
-      → ws ≡ wordsOf (planOf list (length z) (length za) (length report)) → ranLines ws report′ (t .toggled) (t .written) ≡ linesOf list z za report
+      → ws ≡ wordsOf (planOf list (lengthsOf z za report)) → ranLines ws report′ (t .toggled) (t .written) ≡ linesOf list z za report
   unfolding linesOf textOf
   text-ran n t ws e w = ap₂ textOf w e
 
@@ -68,14 +68,14 @@ module _ (list z za report z′ za′ report′ : List ℕ) where
   text-refused r p n e k =
       ap (λ (m : ℕ). refusedLine m p) k
       ∙ sym (rw (tests-not-0 r))
-      ∙ ap (textOf (wordsOf (planOf list (length z) (length za) (length report)))) e
+      ∙ ap (textOf (wordsOf (planOf list (lengthsOf z za report)))) e
 
 -- the words in front are those of the list
-pub front : (list : List ℕ) (z za room n : ℕ) (ws : List ℕ) (a : RanOf (planOf list z za room) n) → WordsAgain list z za room ws
-    → (take n ws ≡ wordsOf (planOf list z za room)) × (n ≤ mostWords) × (3 * n ≤ room)
+pub front : (list : List ℕ) (lent : Lent) (n : ℕ) (ws : List ℕ) (a : RanOf (planOf list lent) n) → WordsAgain list lent ws
+    → (take n ws ≡ wordsOf (planOf list lent)) × (n ≤ mostWords) × (3 * n ≤ lent .report)
 unfolding wordsOf
-front list z za room n ws a w =
-    let fits = lengths-hold list z za room (a .asked) (a .is) in (
+front list lent n ws a w =
+    let fits = lengths-hold list lent (a .asked) (a .is) in (
       ap (λ (k : ℕ). take k ws) (a .count) ∙ w (a .asked) (a .is) ∙ ap wordsOf (sym (a .is)),
       omega (arith, a .count, fits .few),
       omega (arith, a .count, fits .reported),

@@ -18,11 +18,11 @@ use Rattle.numbers.proofs.Places.{number-far}
 use Rattle.numbers.proofs.Rows.{row-first}
 use Rattle.machine.specs.Execute.{rightLengths}
 use Rattle.machine.proofs.Executing.{lengths-right}
-use Rattle.runlist.specs.Plan.{mostWords, settingsOf}
+use Rattle.runlist.specs.Plan.{lengthsOf, mostWords, settingsOf}
 use Rattle.demands.specs.Lists.{longest}
 use Rattle.demands.proofs.Reading.{Causes, by-cause}
 use Rattle.demands.proofs.Lists.{enough-bytes, run-of-enough}
-use Rattle.lamp.specs.Lamp.{wordsOf, textOf, linesOf, registerOf, registerBytes, printed}
+use Rattle.lamp.specs.Lamp.{wordsOf, textOf, linesOf, registerOf, registerBytes, lentTo, printed}
 use Rattle.lamp.specs.Theorems.{EnoughRead, NeverBadLength}
 
 -- ---- the first bytes decide
@@ -34,7 +34,7 @@ first-number k h list = first-decide (λ (l : List ℕ). numberAt l 0) k (λ xs 
 same-lines : (k : ℕ) → longest < k → (list z za report : List ℕ) → linesOf (take k list) z za report ≡ linesOf list z za report
 unfolding linesOf
 same-lines k h list z za report =
-    ap₂ textOf (ap wordsOf (enough-bytes k h list (length z) (length za) (length report))) (run-of-enough k h list z za report)
+    ap₂ textOf (ap wordsOf (enough-bytes k h list (lengthsOf z za report))) (run-of-enough k h list z za report)
 
 pub enough-read : EnoughRead
 unfolding printed registerBytes
@@ -47,7 +47,7 @@ enough-read k h list =
 
 -- the lengths are those of the VL that the settings have
 lent-right : (list head : List ℕ) (p : ℕ) → numbersAt list 0 7 ≡ all head p → validSettings (settingsOf head) ≡ true
-    → rightLengths (settingsOf head) (32 * registerBytes list) (registerBytes list * registerBytes list) ≡ true
+    → rightLengths (settingsOf head) (lentTo list .z) (lentTo list .za) ≡ true
 unfolding vectorBytes arrayBytes settingsOf registerBytes
 lent-right list head p e v =
     let vl : ℕ = getD head 0 0 in
@@ -59,7 +59,7 @@ another : (r : Refusal) → refusalNumber r ≢ 2 → r ≢ BadLength
 another r h e = h (ap refusalNumber e)
 
 -- the two causes of 2 are not there: the lengths are right, and the report has room for as many words as a list may have
-others : (list : List ℕ) → Causes list (32 * registerBytes list) (registerBytes list * registerBytes list) (3 * mostWords) (λ r p. r ≢ BadLength)
+others : (list : List ℕ) → Causes list (lentTo list) (λ r p. r ≢ BadLength)
 others list =
     record {
       ends = λ p h. another ListEnds (λ (e : 7 ≡ 2). omega arith);
@@ -72,4 +72,4 @@ others list =
     }
 
 pub never-bad-length : NeverBadLength
-never-bad-length list p e = by-cause list _ _ _ (λ r p. r ≢ BadLength) (others list) BadLength p e refl
+never-bad-length list p e = by-cause list (lentTo list) (λ r p. r ≢ BadLength) (others list) BadLength p e refl

@@ -1,8 +1,6 @@
 -- Document 01's example run: from the list's bytes to the printed lines.
-use Prim.Native.Nat.{ℕ}
 use mathlib.Core.Path.{_≡_, refl}
-use mathlib.Core.List.{List, [], _∷_, _++_}
-use lib.ListN.{replicate}
+use mathlib.Core.List.{[], _++_}
 use Rattle.settings.specs.Valid.{validSettings, vectorBytes, arrayBytes}
 use Rattle.words.specs.Says.{describe}
 use Rattle.words.specs.Decode.{enables, decodeEnabled}
@@ -18,14 +16,10 @@ use Rattle.machine.specs.Run.{runOf}
 use Rattle.runlist.specs.Plan.{wordsFrom, zFrom, settledFrom, settingsOf, planOf}
 use Rattle.runlist.specs.RunList.{tallied, threes, runPaper}
 use Rattle.lines.specs.Lines.{text, digits, decimalUpTo, decimal, hex8, refusedLine, countsAfter, outcome, wordLine, wordLines, wordsLine, totalLine, ranLines}
+use Rattle.demands.specs.ListExamples.{paperList}
 use Rattle.lamp.specs.Lamp.{wordsOf, textOf, linesOf, registerBytes, printed}
 
--- "VL 128, features 12, modes 3, four zeros, 512 bytes of 01, three words"
-abbrev paperList : List ℕ
-paperList =
-    (0x80 ∷ 0x01 ∷ 0x0C ∷ 0x03 ∷ 0x00 ∷ 0x00 ∷ 0x00 ∷ 0x00 ∷ []) ++ replicate 512 0x01
-    ++ (0x03 ∷ 0x88 ∷ 0x80 ∷ 0x88 ∷ 0x8D ∷ 0x0C ∷ 0xA0 ∷ 0x80 ∷ 0x8A ∷ 0x71 ∷ 0x80 ∷ 0x80 ∷ 0x88 ∷ 0x8D ∷ 0x0C ∷ [])
-
+-- "It prints:"
 paper-printed : printed paperList
     ≡ text "words 3\n" ++ text "1 C1A20008 1024 1024 100\n" ++ text "2 0E228020 refused 3\n" ++ text "3 C1A20000 1024 1024 100\n" ++ text "total 2048 2048 100\n"
 unfolding printed registerBytes linesOf textOf wordsOf runPaper planOf settingsOf settledFrom zFrom wordsFrom numbersAt numberAt numeral runOf tallied threes

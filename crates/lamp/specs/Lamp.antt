@@ -9,7 +9,7 @@ use Rattle.settings.specs.Valid.{validLength}
 use Rattle.numbers.specs.Numbers.{numberAt}
 use Rattle.numbers.specs.declared.Read.{Read}
 use Rattle.numbers.specs.declared.Read.the-variants.{Number, Fault}
-use Rattle.runlist.specs.Plan.{Found, found, refused, Asked, mostWords, planOf}
+use Rattle.runlist.specs.Plan.{Lent, lengthsOf, Found, found, refused, Asked, mostWords, planOf}
 use Rattle.runlist.specs.RunList.{Ended, runPaper}
 use Rattle.lines.specs.Lines.{refusedLine, ranLines}
 
@@ -25,10 +25,11 @@ textOf ws o =
 
 -- the text of what `run` answers, where Z, ZA and the report are lent
 unfoldable pub linesOf : List ℕ → List ℕ → List ℕ → List ℕ → List ℕ
-linesOf list z za report = textOf (wordsOf (planOf list (length z) (length za) (length report))) (runPaper list z za report)
+linesOf list z za report = textOf (wordsOf (planOf list (lengthsOf z za report))) (runPaper list z za report)
 
 -- ---- what the program lends
 
+-- VL/8, where the number that was read is a VL
 abbrev pub registerOf : Read → ℕ
 registerOf (Number vl next) = cond (validLength vl) (vl / 8) 0
 registerOf (Fault r p) = 0
@@ -37,13 +38,17 @@ registerOf (Fault r p) = 0
 unfoldable pub registerBytes : List ℕ → ℕ
 registerBytes list = registerOf (numberAt list 0)
 
--- what is printed: zeros are lent, Z and ZA as long as the list asks for, and three numbers for each word that a list may have
+-- how long what it lends is: Z and ZA as the list asks for, and three numbers for each word that a list may have
+abbrev pub lentTo : List ℕ → Lent
+lentTo list = record { z = 32 * registerBytes list; za = registerBytes list * registerBytes list; report = 3 * mostWords }
+
+-- what is printed: zeros are lent
 unfoldable pub printed : List ℕ → List ℕ
 printed list =
-    linesOf list (replicate (32 * registerBytes list) 0) (replicate (registerBytes list * registerBytes list) 0) (replicate (3 * mostWords) 0)
+    linesOf list (replicate (lentTo list .z) 0) (replicate (lentTo list .za) 0) (replicate (lentTo list .report) 0)
 
 -- ---- only a contract uses this
 
 -- the words of an accepted list stand in front
-abbrev pub WordsAgain : List ℕ → ℕ → ℕ → ℕ → List ℕ → Type 0
-WordsAgain list z za room words = (a : Asked) → planOf list z za room ≡ found a → take (length (a .words)) words ≡ a .words
+abbrev pub WordsAgain : List ℕ → Lent → List ℕ → Type 0
+WordsAgain list lent words = (a : Asked) → planOf list lent ≡ found a → take (length (a .words)) words ≡ a .words

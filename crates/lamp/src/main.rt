@@ -50,12 +50,12 @@ fn register_of(first: Read) -> usize
 }
 
 // The words of an accepted list, read again, since the report does not hold them.
-fn words_again(list: &[u8], z: usize, za: usize, room: usize, words: &mut [u32])
+fn words_again(list: &[u8], z: usize, za: usize, report: usize, words: &mut [u32])
     requires { ⌜ length (now words) ≡ mostWords ⌝ }
-    ensures { λ _. ⌜ WordsAgain (now (list .entry)) z za room (now (words .exit)) ⌝ }
+    ensures { λ _. ⌜ WordsAgain (now (list .entry)) (record { z = z; za = za; report = report }) (now (words .exit)) ⌝ }
 {
     let mut head = [0u32; runlist::HEAD];
-    match runlist::read_front(list, z, za, room, &mut head) {
+    match runlist::read_front(list, z, za, report, &mut head) {
         Front::Refused {
             refusal: _,
             place: _,

@@ -17,7 +17,7 @@ use Rattle.numbers.specs.declared.Row.the-variants as row
 use Rattle.numbers.proofs.Rows.{told-all, told-fault, filled-all, row-within}
 use Rattle.machine.specs.Execute.{rightLengths}
 use Rattle.machine.proofs.Executing.{lengths-exact}
-use Rattle.runlist.specs.Plan.{found, refused, mostWords, endedAt, wordsFrom, asking, zLength, zFrom, settledFrom, settingsOf, headed, planOf}
+use Rattle.runlist.specs.Plan.{Lent, found, refused, mostWords, endedAt, wordsFrom, asking, zLength, zFrom, settledFrom, settingsOf, headed, planOf}
 use Rattle.runlist.specs.Rooms.{frontSays, Settled, CountRead, RestRead, FrontRead}
 use Rattle.runlist.specs.declared.Front.{Front}
 use Rattle.runlist.specs.declared.Front.the-variants as front
@@ -49,90 +49,91 @@ whole-inside list at n p h e = row-within list at n _ p h (told-all _ p e) .1
 
 -- ---- the count
 
-pub words-counted : (list : List ℕ) (room at n p : ℕ) → numberAt list at ≡ Number n p → n ≤ mostWords → 3 * n ≤ room → endedAt list (numbersAt list p n) ≡ wordsFrom list room at
+pub words-counted : (list : List ℕ) (lent : Lent) (at n p : ℕ) → numberAt list at ≡ Number n p → n ≤ mostWords → 3 * n ≤ lent .report
+    → endedAt list (numbersAt list p n) ≡ wordsFrom list lent at
 unfolding wordsFrom
-words-counted list room at n p e h k = simp (e, le-leb n mostWords h, le-leb (3 * n) room k)
+words-counted list lent at n p e h k = simp (e, le-leb n mostWords h, le-leb (3 * n) (lent .report) k)
 
 -- what a list asks for that ends before its words
 abbrev stops : List ℕ → ℕ → ℕ → ℕ → Refusal → ℕ → Type 0
-stops list room at z r p = refused r p ≡ wordsFrom list room (at + z)
+stops list report at z r p = (za : ℕ) → refused r p ≡ wordsFrom list (record { z = z; za = za; report = report }) (at + z)
 
-stopped : (list : List ℕ) (room at z : ℕ) (r : Refusal) (p : ℕ) → stops list room at z r p → CountRead list room at z (front.Refused r p)
-stopped list room at z r p e = record { says = λ s. ap (asking s (take z (drop at list))) e; fits = tt }
+stopped : (list : List ℕ) (report at z : ℕ) (r : Refusal) (p : ℕ) → stops list report at z r p → CountRead list report at z (front.Refused r p)
+stopped list report at z r p e = record { says = λ s za. ap (asking s (take z (drop at list))) (e za); fits = tt }
 
-module _ (list : List ℕ) (room at z : ℕ) where
-  pub no-count : (r : Refusal) (p : ℕ) → numberAt list (at + z) ≡ Fault r p → CountRead list room at z (front.Refused r p)
+module _ (list : List ℕ) (report at z : ℕ) where
+  pub no-count : (r : Refusal) (p : ℕ) → numberAt list (at + z) ≡ Fault r p → CountRead list report at z (front.Refused r p)
   unfolding wordsFrom
-  no-count r p e = stopped list room at z r p (simp e)
+  no-count r p e = stopped list report at z r p (λ za. simp e)
 
   module _ (n p : ℕ) (e : numberAt list (at + z) ≡ Number n p) where
-    pub too-many : mostWords < n → CountRead list room at z (front.Refused TooManyWords (at + z))
+    pub too-many : mostWords < n → CountRead list report at z (front.Refused TooManyWords (at + z))
     unfolding wordsFrom
-    too-many h = stopped list room at z TooManyWords (at + z) (simp (e, lt-leb n mostWords h))
+    too-many h = stopped list report at z TooManyWords (at + z) (λ za. simp (e, lt-leb n mostWords h))
 
     module _ (h : n ≤ mostWords) where
-      pub no-room : room < 3 * n → CountRead list room at z (front.Refused BadLength 0)
+      pub no-room : report < 3 * n → CountRead list report at z (front.Refused BadLength 0)
       unfolding wordsFrom
-      no-room k = stopped list room at z BadLength 0 (simp (e, le-leb n mostWords h, lt-leb (3 * n) room k))
+      no-room k = stopped list report at z BadLength 0 (λ za. simp (e, le-leb n mostWords h, lt-leb (3 * n) report k))
 
-      pub counted : 3 * n ≤ room → at + z ≤ length list → CountRead list room at z (front.Words at p n)
-      counted k l =
+      pub count-read : 3 * n ≤ report → at + z ≤ length list → CountRead list report at z (front.Words at p n)
+      count-read k l =
           record {
-            says = λ s. ap (asking s (take z (drop at list))) (words-counted list room (at + z) n p e h k);
+            says = λ s za. ap (asking s (take z (drop at list))) (words-counted list (record { z = z; za = za; report = report }) (at + z) n p e h k);
             fits = (l, h, k);
           }
 
 -- ---- the settings, the lengths and the Z bytes
 
-pub z-right : (s : Settings) (z za : ℕ) → rightLengths s z za ≡ true → zLength s ≡ z
-z-right s z za e = sym (lengths-exact s z za e .0)
+pub z-right : (s : Settings) (lent : Lent) → rightLengths s (lent .z) (lent .za) ≡ true → zLength s ≡ lent .z
+z-right s lent e = sym (lengths-exact s (lent .z) (lent .za) e .0)
 
-pub z-read : (list : List ℕ) (z za room : ℕ) (s : Settings) (at : ℕ) → validSettings s ≡ true → rightLengths s z za ≡ true → at + z ≤ length list
-    → asking s (take z (drop at list)) (wordsFrom list room (at + z)) ≡ settledFrom list z za room s at
+pub z-read : (list : List ℕ) (lent : Lent) (s : Settings) (at : ℕ) → validSettings s ≡ true → rightLengths s (lent .z) (lent .za) ≡ true
+    → at + lent .z ≤ length list → asking s (take (lent .z) (drop at list)) (wordsFrom list lent (at + lent .z)) ≡ settledFrom list lent s at
 unfolding settledFrom zFrom
-z-read list z za room s at v l h = sym (rw (v, l, z-right s z za l, le-leb (at + z) (length list) h))
+z-read list lent s at v l h = sym (rw (v, l, z-right s lent l, le-leb (at + lent .z) (length list) h))
 
-as-settled : (s : Settings) (z za : ℕ) (r : Front) → validSettings s ≡ true → rightLengths s z za ≡ true → Settled r s z za
-as-settled s z za (front.Words at from n) v l = (v, l)
-as-settled s z za (front.Refused r p) v l = tt
+as-settled : (s : Settings) (lent : Lent) (r : Front) → validSettings s ≡ true → rightLengths s (lent .z) (lent .za) ≡ true → Settled r s lent
+as-settled s lent (front.Words at from n) v l = (v, l)
+as-settled s lent (front.Refused r p) v l = tt
 
-module _ (list : List ℕ) (z za room : ℕ) (s : Settings) (at : ℕ) where
-  pub unsettled : validSettings s ≡ false → RestRead list z za room s at (front.Refused BadSettings 0)
+module _ (list : List ℕ) (lent : Lent) (s : Settings) (at : ℕ) where
+  pub unsettled : validSettings s ≡ false → RestRead list lent s at (front.Refused BadSettings 0)
   unfolding settledFrom
   unsettled e = record { says = simp e; fits = tt; settled = tt }
 
   module _ (v : validSettings s ≡ true) where
-    pub wrong-lengths : rightLengths s z za ≡ false → RestRead list z za room s at (front.Refused BadLength 0)
+    pub wrong-lengths : rightLengths s (lent .z) (lent .za) ≡ false → RestRead list lent s at (front.Refused BadLength 0)
     unfolding settledFrom
     wrong-lengths e = record { says = simp (v, e); fits = tt; settled = tt }
 
-    module _ (l : rightLengths s z za ≡ true) where
-      pub cut-short : length list < at + z → RestRead list z za room s at (front.Refused ListEnds at)
+    module _ (l : rightLengths s (lent .z) (lent .za) ≡ true) where
+      pub cut-short : length list < at + lent .z → RestRead list lent s at (front.Refused ListEnds at)
       unfolding settledFrom zFrom
-      cut-short h = record { says = sym (rw (v, l, z-right s z za l, lt-leb (at + z) (length list) h)); fits = tt; settled = tt }
+      cut-short h = record { says = sym (rw (v, l, z-right s lent l, lt-leb (at + lent .z) (length list) h)); fits = tt; settled = tt }
 
-      pub gone-on : at + z ≤ length list → (r : Front) → CountRead list room at z r → RestRead list z za room s at r
-      gone-on h r d = record { says = d .says s ∙ z-read list z za room s at v l h; fits = d .fits; settled = as-settled s z za r v l }
+      pub gone-on : at + lent .z ≤ length list → (r : Front) → CountRead list (lent .report) at (lent .z) r → RestRead list lent s at r
+      gone-on h r d = record { says = d .says s (lent .za) ∙ z-read list lent s at v l h; fits = d .fits; settled = as-settled s lent r v l }
 
 -- ---- the seven numbers, and what follows them
 
-module _ (list : List ℕ) (z za room : ℕ) (head head′ : List ℕ) (l : length head ≡ 7) (f : head′ ≡ filled (numbersAt list 0 (length head)) head) where
+module _ (list : List ℕ) (lent : Lent) (head head′ : List ℕ) (l : length head ≡ 7) (f : head′ ≡ filled (numbersAt list 0 (length head)) head) where
   seven : numbersAt list 0 (length head) ≡ numbersAt list 0 7
   seven = ap (numbersAt list 0) l
 
-  pub no-head : (r : Refusal) (p : ℕ) → rowOf (numbersAt list 0 (length head)) ≡ row.Fault r p → FrontRead list z za room head′ (front.Refused r p)
+  pub no-head : (r : Refusal) (p : ℕ) → rowOf (numbersAt list 0 (length head)) ≡ row.Fault r p → FrontRead list lent head′ (front.Refused r p)
   unfolding planOf
-  no-head r p e = record { says = sym (ap (headed list z za room) (sym seven ∙ told-fault _ r p e)); fits = tt; settled = tt }
+  no-head r p e = record { says = sym (ap (headed list lent) (sym seven ∙ told-fault _ r p e)); fits = tt; settled = tt }
 
   pub headed-by : (p : ℕ) (s : Settings) (r : Front) → rowOf (numbersAt list 0 (length head)) ≡ row.Next p → s ≡ settingsOf head′
-      → RestRead list z za room s p r → FrontRead list z za room head′ r
+      → RestRead list lent s p r → FrontRead list lent head′ r
   unfolding planOf
   headed-by p s r e q d =
       let is : numbersAt list 0 7 ≡ all head′ p = sym seven ∙ told-all _ p e ∙ ap (λ (x : List ℕ). all x p) (sym (whole-row list 0 p head head′ e f)) in
       record {
         says =
-            ap (λ (x : Settings). frontSays r x list z) (sym q) ∙ d .says ∙ ap (λ (x : Settings). settledFrom list z za room x p) q
-            ∙ sym (ap (headed list z za room) is);
+            ap (λ (x : Settings). frontSays r x list (lent .z)) (sym q) ∙ d .says ∙ ap (λ (x : Settings). settledFrom list lent x p) q
+            ∙ sym (ap (headed list lent) is);
         fits = d .fits;
-        settled = subst (λ (x : Settings). Settled r x z za) q (d .settled);
+        settled = subst (λ (x : Settings). Settled r x lent) q (d .settled);
       }

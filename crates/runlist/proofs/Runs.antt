@@ -19,7 +19,7 @@ use Rattle.machine.specs.declared.Executed.the-variants.{Done, Refused}
 use Rattle.machine.specs.declared.Reported.{Reported}
 use Rattle.machine.proofs.Answers.{says-z, says-za}
 use Rattle.machine.proofs.Small as machine
-use Rattle.runlist.specs.Plan.{Found, found, refused, Asked, endedAt, asking, planOf}
+use Rattle.runlist.specs.Plan.{lengthsOf, Found, found, refused, Asked, endedAt, asking, planOf}
 use Rattle.runlist.specs.Rooms.{goesOn}
 use Rattle.runlist.specs.RunList.{noTally, tallied, three, threes, carriedOut, runPaper, runSays, RunPromise, withThree, Performed}
 use Rattle.runlist.specs.declared.RunAnswer.{RunAnswer}
@@ -53,14 +53,14 @@ says-report (Done c) z za = refl
 says-report (Refused r) z za = refl
 
 -- a word was executed: the answer's three numbers, and Z and ZA afterwards, are those of the definition
-pub record Turned (o : Outcome) (r : Reported) (z′ za′ : List ℕ) : Type 0 where
+pub record WordRun (o : Outcome) (r : Reported) (z′ za′ : List ℕ) : Type 0 where
   pub three : threeOf r ≡ reportOf o
   pub z-is : o .z ≡ z′
   pub za-is : o .za ≡ za′
 
-pub turned : (s : Settings) (w : ℕ) (z za : List ℕ) (e : Executed) (z′ za′ : List ℕ) (r : Reported)
-    → executedSays e z′ za′ ≡ executePaper s w z za → threeOf r ≡ reportOf (executedSays e [] []) → Turned (executePaper s w z za) r z′ za′
-turned s w z za e z′ za′ r p q =
+pub word-run : (s : Settings) (w : ℕ) (z za : List ℕ) (e : Executed) (z′ za′ : List ℕ) (r : Reported)
+    → executedSays e z′ za′ ≡ executePaper s w z za → threeOf r ≡ reportOf (executedSays e [] []) → WordRun (executePaper s w z za) r z′ za′
+word-run s w z za e z′ za′ r p q =
     record {
       three = q ∙ says-report e z′ za′ ∙ ap reportOf p;
       z-is = sym (ap (λ (o : Outcome). o .z) p) ∙ says-z e z′ za′;
@@ -68,7 +68,7 @@ turned s w z za e z′ za′ r p q =
     }
 
 -- its two counts are small
-pub counts-small : (s : Settings) (w : ℕ) (z za z′ za′ : List ℕ) (r : Reported) → Turned (executePaper s w z za) r z′ za′
+pub counts-small : (s : Settings) (w : ℕ) (z za z′ za′ : List ℕ) (r : Reported) → WordRun (executePaper s w z za) r z′ za′
     → (r .toggled ≤ 49152) × (r .written ≤ 8192)
 counts-small s w z za z′ za′ r d =
     let t : r .toggled ≡ executePaper s w z za .toggled = ap (λ (q : Report). q .1) (d .three) in
@@ -85,25 +85,25 @@ module _ (i : ℕ) (r : Report) (report : List ℕ) (h : 3 * i + 3 ≤ length re
   front : length (take (3 * i) report ++ three r) ≡ 3 * (i + 1)
   front = length-append (take (3 * i) report) (three r) ∙ omega (arith, before)
 
-  joined : withThree i r report ≡ (take (3 * i) report ++ three r) ++ drop (3 * i + 3) report
-  joined = sym (append-assoc (take (3 * i) report) (three r) (drop (3 * i + 3) report))
+  with-three : withThree i r report ≡ (take (3 * i) report ++ three r) ++ drop (3 * i + 3) report
+  with-three = sym (append-assoc (take (3 * i) report) (three r) (drop (3 * i + 3) report))
 
   take-with : take (3 * (i + 1)) (withThree i r report) ≡ take (3 * i) report ++ three r
-  take-with = ap (take (3 * (i + 1))) joined ∙ take-at (take (3 * i) report ++ three r) (drop (3 * i + 3) report) (3 * (i + 1)) front
+  take-with = ap (take (3 * (i + 1))) with-three ∙ take-at (take (3 * i) report ++ three r) (drop (3 * i + 3) report) (3 * (i + 1)) front
 
   drop-with : drop (3 * (i + 1)) (withThree i r report) ≡ drop (3 * i + 3) report
-  drop-with = ap (drop (3 * (i + 1))) joined ∙ drop-at (take (3 * i) report ++ three r) (drop (3 * i + 3) report) (3 * (i + 1)) front
+  drop-with = ap (drop (3 * (i + 1))) with-three ∙ drop-at (take (3 * i) report ++ three r) (drop (3 * i + 3) report) (3 * (i + 1)) front
 
   pub stored : set (set (set report (3 * i) (r .0)) (3 * i + 1) (r .1)) (3 * i + 2) (r .2) ≡ withThree i r report
   stored =
       let one : 3 * i + 1 ≡ suc (3 * i) = omega arith in
       let two : 3 * i + 2 ≡ suc (suc (3 * i)) = omega arith in
-      ap₂ (λ (j k : ℕ). set (set (set report (3 * i) (r .0)) j (r .1)) k (r .2)) one two ∙ sets-eq (three r) report (3 * i) h ∙ sym joined
+      ap₂ (λ (j k : ℕ). set (set (set report (3 * i) (r .0)) j (r .1)) k (r .2)) one two ∙ sets-eq (three r) report (3 * i) h ∙ sym with-three
 
 -- ---- a turn
 
 module _ (s : Settings) (ws : List ℕ) (i : ℕ) (h : i < length ws) (z za z′ za′ : List ℕ) (r : Reported)
-    (d : Turned (executePaper s (getD ws i 0) z za) r z′ za′) where
+    (d : WordRun (executePaper s (getD ws i 0) z za) r z′ za′) where
   -- what is left of the run begins with this word
   left : runOf (executePaper s) (drop i ws) z za ≡ reportFirst (executePaper s (getD ws i 0) z za) (runOf (executePaper s) (drop (i + 1) ws) z′ za′)
   unfolding runOf
@@ -189,11 +189,11 @@ module _ (s : Settings) (list : List ℕ) (at from : ℕ) (room z za report : Li
 -- ---- the whole list
 
 module _ (list z za report : List ℕ) where
-  pub refused-run : (r : Refusal) (p : ℕ) → refused r p ≡ planOf list (length z) (length za) (length report) → RunPromise list z za report (answer.Refused r p) z za report
+  pub refused-run : (r : Refusal) (p : ℕ) → refused r p ≡ planOf list (lengthsOf z za report) → RunPromise list z za report (answer.Refused r p) z za report
   unfolding runPaper
   refused-run r p e = ap (λ (f : Found Asked). carriedOut f z za report) e
 
-  pub run-on : (f : Found Asked) (a : RunAnswer) (z′ za′ report′ : List ℕ) → f ≡ planOf list (length z) (length za) (length report)
+  pub run-on : (f : Found Asked) (a : RunAnswer) (z′ za′ report′ : List ℕ) → f ≡ planOf list (lengthsOf z za report)
       → runSays a z′ za′ report′ ≡ carriedOut f z za report → RunPromise list z za report a z′ za′ report′
   unfolding runPaper
   run-on f a z′ za′ report′ e d = d ∙ ap (λ (x : Found Asked). carriedOut x z za report) e

@@ -8,7 +8,7 @@ use Rattle.tally.specs.Tally.{plus}
 use Rattle.tally.specs.declared.Tally.{Tally}
 use Rattle.machine.specs.Execute.{executePaper}
 use Rattle.machine.specs.Run.{Report, Run, runOf}
-use Rattle.runlist.specs.Plan.{Found, found, refused, Asked, planOf}
+use Rattle.runlist.specs.Plan.{lengthsOf, Found, found, refused, Asked, planOf}
 use Rattle.runlist.specs.declared.RunAnswer.{RunAnswer}
 use Rattle.runlist.specs.declared.RunAnswer.the-variants as answer
 
@@ -61,8 +61,9 @@ carriedOut (found a) z za report =
     ran (length (a .words)) (runOf (executePaper (a .settings)) (a .words) (a .z) (replicate (length za) 0)) report
 carriedOut (refused r p) z za report = refusedAt (refusalNumber r) p z za report
 
+-- a list, with Z, ZA and the report that are lent
 unfoldable pub runPaper : List ℕ → List ℕ → List ℕ → List ℕ → Ended
-runPaper list z za report = carriedOut (planOf list (length z) (length za) (length report)) z za report
+runPaper list z za report = carriedOut (planOf list (lengthsOf z za report)) z za report
 
 -- what an answer says, with Z, ZA and the report as the call left them
 abbrev pub runSays : RunAnswer → List ℕ → List ℕ → List ℕ → Ended

@@ -86,10 +86,10 @@ pub fn read_to_end(list: &[u8], at: usize, words: &mut [u32]) -> Words
     }
 }
 
-// The count of the words, behind the z bytes from `at` on. `room` is how many numbers the report has.
-fn read_count(list: &[u8], room: usize, at: usize, z: usize) -> Front
+// The count of the words, behind the z bytes from `at` on. `report` is how many numbers the report has.
+fn read_count(list: &[u8], report: usize, at: usize, z: usize) -> Front
     requires { ⌜ at + z ≤ length (now list) ⌝ }
-    ensures { λ r. ⌜ CountRead (now (list .entry)) room at z r ⌝ }
+    ensures { λ r. ⌜ CountRead (now (list .entry)) report at z r ⌝ }
 {
     match numbers::read_number(list, at + z) {
         Read::Fault { refusal, place } => Front::Refused {
@@ -104,7 +104,7 @@ fn read_count(list: &[u8], room: usize, at: usize, z: usize) -> Front
                     place: at + z,
                 };
             }
-            if room < 3 * n {
+            if report < 3 * n {
                 return Front::Refused {
                     refusal: Refusal::BadLength,
                     place: 0,
@@ -120,9 +120,16 @@ fn read_count(list: &[u8], room: usize, at: usize, z: usize) -> Front
 }
 
 // What follows the seven numbers: the settings and the lengths are tested, then come the Z bytes, from `at` on, and the count.
-fn read_rest(list: &[u8], z: usize, za: usize, room: usize, settings: Settings, at: usize) -> Front
+fn read_rest(
+    list: &[u8],
+    z: usize,
+    za: usize,
+    report: usize,
+    settings: Settings,
+    at: usize,
+) -> Front
     requires { ⌜ at ≤ length (now list) ⌝ }
-    ensures { λ r. ⌜ RestRead (now (list .entry)) z za room settings at r ⌝ }
+    ensures { λ r. ⌜ RestRead (now (list .entry)) (record { z = z; za = za; report = report }) settings at r ⌝ }
 {
     if !settings.valid() {
         return Front::Refused {
@@ -142,14 +149,14 @@ fn read_rest(list: &[u8], z: usize, za: usize, room: usize, settings: Settings, 
             place: at,
         };
     }
-    read_count(list, room, at, z)
+    read_count(list, report, at, z)
 }
 
-// Reads a list up to its words; z, za and room are the lengths of Z, ZA and the report. It writes nothing but `head`, the room for
-// the seven numbers in front.
-pub fn read_front(list: &[u8], z: usize, za: usize, room: usize, head: &mut [u32]) -> Front
+// Reads a list up to its words; z, za and report are the lengths of what is lent. It writes nothing but `head`, the room for the
+// seven numbers in front.
+pub fn read_front(list: &[u8], z: usize, za: usize, report: usize, head: &mut [u32]) -> Front
     requires { ⌜ length (now head) ≡ 7 ⌝ }
-    ensures { λ r. ⌜ FrontRead (now (list .entry)) z za room (now (head .exit)) r ⌝ }
+    ensures { λ r. ⌜ FrontRead (now (list .entry)) (record { z = z; za = za; report = report }) (now (head .exit)) r ⌝ }
     ensures { λ r. ⌜ now (head .exit) ≡ filled (numbersAt (now (list .entry)) 0 7) (now (head .entry)) ⌝ }
 {
     match numbers::read_numbers(list, 0, head) {
@@ -157,7 +164,7 @@ pub fn read_front(list: &[u8], z: usize, za: usize, room: usize, head: &mut [u32
             refusal: refusal,
             place: place,
         },
-        Row::Next { next } => read_rest(list, z, za, room, settings_of(head), next),
+        Row::Next { next } => read_rest(list, z, za, report, settings_of(head), next),
     }
 }
 

@@ -4,7 +4,7 @@ use native.Mathlib.Omega.{arith}
 use mathlib.Core.Path.{_≡_, sym}
 use lib.ListN.{length, take}
 use lib.Seq.{length-take-le}
-use Rattle.runlist.specs.Plan.{Found, Asked, mostWords, planOf}
+use Rattle.runlist.specs.Plan.{lengthsOf, Found, Asked, mostWords, planOf}
 use Rattle.runlist.specs.RunList.{RunPromise}
 use Rattle.runlist.specs.declared.RunAnswer.{RunAnswer}
 use Rattle.lines.proofs.Pieces.{said}
@@ -14,21 +14,21 @@ use borrow.Author.Needs.{needs}
 use Rattle.lamp.proofs.put_answer.Statement.{statement}
 use Rattle.lamp.proofs.put_answer.Tie as tie
 
--- the places that the answers speak of: the entry, the run, and what was counted
+-- the places that the answers speak of: the entry, the run, and its count of words
 abbrev entry : tie.After-run → tie.Start
 entry c = c .before .before .before .before .before .before .before .before .before .before
 
-abbrev ran : tie.After-count → tie.After-run
-ran c = c .before .before .before .before .before .before .before .before
+abbrev run-done : tie.After-count → tie.After-run
+run-done c = c .before .before .before .before .before .before .before .before
 
-abbrev counted : tie.After-words-again → tie.After-count
-counted c = c .before .before .before
+abbrev with-count : tie.After-words-again → tie.After-count
+with-count c = c .before .before .before
 
 abbrev count : tie.After-count → ℕ
 count c = c .count .given .0 .0
 
 abbrev asked : tie.After-run → Found Asked
-asked c = planOf (entry c .args .list .now) (length (entry c .args .z .now)) (length (entry c .args .za .now)) (length (entry c .args .report .now))
+asked c = planOf (entry c .args .list .now) (lengthsOf (entry c .args .z .now) (entry c .args .za .now) (entry c .args .report .now))
 
 -- what was promised of the run, where its answer is known
 promised : (c : tie.After-run) (a : RunAnswer) → c .run .result ≡ a
@@ -38,16 +38,16 @@ promised c a e = rw (← e) (c .run .ensures)
 
 -- the words stand in front, and they are few enough
 words-there : (c : tie.After-words-again)
-    → (take (count (counted c)) (c .words-again .last .1 .1 .1 .1 .0) ≡ wordsOf (asked (ran (counted c))))
-    × (count (counted c) ≤ mostWords) × (3 * count (counted c) ≤ length (entry (ran (counted c)) .args .report .now))
+    → (take (count (with-count c)) (c .words-again .last .1 .1 .1 .1 .0) ≡ wordsOf (asked (run-done (with-count c))))
+    × (count (with-count c) ≤ mostWords) × (3 * count (with-count c) ≤ length (entry (run-done (with-count c)) .args .report .now))
 words-there c =
-    let r = ran (counted c) in
-    front _ _ _ _ _ _ (accepted _ _ _ _ _ _ _ _ _ (promised r _ (counted c .count .given .1)))
+    let r = run-done (with-count c) in
+    front _ _ _ _ (accepted _ _ _ _ _ _ _ _ _ (promised r _ (with-count c .count .given .1)))
     (rw (r .run .kept .1 .0, r .run .kept .1 .1 .0, r .run .kept .1 .1 .1 .0) at (c .words-again .ensures))
 
-as-many : (c : tie.After-words-again) → length (take (count (counted c)) (c .words-again .last .1 .1 .1 .1 .0)) ≡ count (counted c)
+as-many : (c : tie.After-words-again) → length (take (count (with-count c)) (c .words-again .last .1 .1 .1 .1 .0)) ≡ count (with-count c)
 as-many c =
-    length-take-le _ _ (omega (arith, words-there c .1, c .words-again .kept .1 .1 .1 .1 .0, entry (ran (counted c)) .pre .0))
+    length-take-le _ _ (omega (arith, words-there c .1, c .words-again .kept .1 .1 .1 .1 .0, entry (run-done (with-count c)) .pre .0))
 
 run-requires : tie.Need-run-requires
 run-requires c κs = search needs
@@ -70,7 +70,7 @@ words-again-requires c κs = search needs
 slice-reshare-prefix-put-ran : tie.Need-slice-reshare-prefix-put-ran
 slice-reshare-prefix-put-ran c =
     let x = c .before .before .before in
-    omega (arith, words-there x .1, x .words-again .kept .1 .1 .1 .1 .0, entry (ran (counted x)) .pre .0)
+    omega (arith, words-there x .1, x .words-again .kept .1 .1 .1 .1 .0, entry (run-done (with-count x)) .pre .0)
 
 slice-aggregate-put-ran : tie.Need-slice-aggregate-put-ran
 slice-aggregate-put-ran c = sym (as-many (c .before .before .before .before))
@@ -78,7 +78,7 @@ slice-aggregate-put-ran c = sym (as-many (c .before .before .before .before))
 put-ran-requires : tie.Need-put-ran-requires
 put-ran-requires c κs =
     let x = c .before .before .before .before .before in
-    let r = ran (counted x) in
+    let r = run-done (with-count x) in
     (omega (arith, as-many x, words-there x .1, entry r .pre .1), omega (arith, as-many x, words-there x .2, r .run .kept .1 .1 .1 .0))
 
 same-length : tie.Need-same-length
@@ -123,7 +123,7 @@ returns-2 : tie.Need-returns-2
 returns-2 c =
     let w = c .before .before in
     let x = w .before .before .before .before .before .before in
-    (said (text-ran _ _ _ _ _ _ _ _ _ _ (promised (ran (counted x)) _ (counted x .count .given .1)) (words-there x .0)) (w .put-ran .ensures .0), w .put-ran .ensures .1)
+    (said (text-ran _ _ _ _ _ _ _ _ _ _ (promised (run-done (with-count x)) _ (with-count x .count .given .1)) (words-there x .0)) (w .put-ran .ensures .0), w .put-ran .ensures .1)
 
 pub put-answer-spec : {M : Type 1} → statement M
 put-answer-spec =

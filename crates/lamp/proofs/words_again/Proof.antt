@@ -31,7 +31,7 @@ count c = c .from .given .0 .1 .1 .0
 
 -- the room has a place for each word
 few : (c : tie.After-from) → count c ≤ length (entry (read c) .args .words .now)
-few c = omega (arith, subst (FrontRead _ _ _ _ _) (c .from .given .1) (read c .read-front .ensures .0) .fits .1, entry (read c) .pre)
+few c = omega (arith, subst (FrontRead _ _ _) (c .from .given .1) (read c .read-front .ensures .0) .fits .1, entry (read c) .pre)
 
 as-many : (c : tie.After-from) → length (take (count c) (entry (read c) .args .words .now)) ≡ count c
 as-many c = length-take-le _ _ (few c)
@@ -61,8 +61,8 @@ returns : tie.Need-returns
 returns c =
     let r = c .before .before .before in
     let a = entry r .args in
-    none-again (a .list .now) (a .z) (a .za) (a .room) (settingsOf (head r)) _ _ _
-    (subst (FrontRead _ _ _ _ _) (c .enum-told .given .1) (r .read-front .ensures .0) .says)
+    none-again (a .list .now) _ (settingsOf (head r)) _ _ _
+    (subst (FrontRead _ _ _) (c .enum-told .given .1) (r .read-front .ensures .0) .says)
 
 same-length : tie.Need-same-length
 same-length c = search needs
@@ -73,9 +73,9 @@ returns-2 c =
     let b = began x in
     let r = read b in
     let a = entry r .args in
-    words-again (a .list .now) (a .z) (a .za) (a .room) (settingsOf (head r)) (b .from .given .0 .0) (b .from .given .0 .1 .0) (length (take (count b) (a .words .now)))
+    words-again (a .list .now) _ (settingsOf (head r)) (b .from .given .0 .0) (b .from .given .0 .1 .0) (length (take (count b) (a .words .now)))
     (ap (λ (n : ℕ). frontSays (Words (b .from .given .0 .0) (b .from .given .0 .1 .0) n) (settingsOf (head r)) (a .list .now) (a .z)) (as-many b)
-    ∙ subst (FrontRead _ _ _ _ _) (b .from .given .1) (r .read-front .ensures .0) .says)
+    ∙ subst (FrontRead _ _ _) (b .from .given .1) (r .read-front .ensures .0) .says)
     (x .read-to-end .result) _ _ (x .read-to-end .ensures .0)
 
 pub words-again-spec : {M : Type 1} → statement M

@@ -6,7 +6,7 @@ use lib.ListN.{length, getD}
 use Rattle.machine.specs.Execute.{executePaper}
 use Rattle.machine.proofs.Executing.{still-ready}
 use borrow.Author.Needs.{needs}
-use Rattle.runlist.proofs.Runs.{Running, starting, Turned, turned, counts-small, turn, finished}
+use Rattle.runlist.proofs.Runs.{Running, starting, WordRun, word-run, counts-small, turn, finished}
 use Rattle.runlist.proofs.perform.Statement.{statement}
 use Rattle.runlist.proofs.perform.Tie as tie
 
@@ -30,9 +30,9 @@ entry c = c .before .before .before .before .before
 
 -- the word of this turn was executed
 word-done : (c : tie.After-report-of Inv-loop μ-loop)
-    → Turned (executePaper (entry (head (executed c)) .args .settings) (getD (entry (head (executed c)) .args .words .now) (head (executed c) .loop .i) 0) (head (executed c) .loop .z) (head (executed c) .loop .za))
+    → WordRun (executePaper (entry (head (executed c)) .args .settings) (getD (entry (head (executed c)) .args .words .now) (head (executed c) .loop .i) 0) (head (executed c) .loop .z) (head (executed c) .loop .za))
     (c .report-of .result) (executed c .execute-word .last .1 .1 .0) (executed c .execute-word .last .1 .1 .1 .0)
-word-done c = turned _ _ _ _ (executed c .execute-word .result) _ _ _ (executed c .execute-word .ensures) (c .report-of .ensures)
+word-done c = word-run _ _ _ _ (executed c .execute-word .result) _ _ _ (executed c .execute-word .ensures) (c .report-of .ensures)
 
 loop-holds : tie.Need-loop-holds Inv-loop μ-loop
 loop-holds c = (omega arith, refl, refl, refl, starting _ _ _ _ _)

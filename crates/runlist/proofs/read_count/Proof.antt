@@ -4,7 +4,7 @@ use mathlib.Core.Path.{_≡_, sym, _∙_}
 use mathlib.Core.List.{List}
 use Rattle.numbers.specs.Numbers.{numberAt}
 use Rattle.numbers.specs.declared.Read.the-variants.{Number}
-use Rattle.runlist.proofs.Plans.{no-count, too-many, no-room, counted}
+use Rattle.runlist.proofs.Plans.{no-count, too-many, no-room, count-read}
 use borrow.Author.Needs.{needs}
 use Rattle.runlist.proofs.read_count.Statement.{statement}
 use Rattle.runlist.proofs.read_count.Tie as tie
@@ -53,7 +53,7 @@ returns-3 c = no-count _ _ _ _ _ _ (sym (c .before .before .before .read-number 
 returns-4 : tie.Need-returns-4
 returns-4 c =
     let v = c .before .before .before in
-    counted _ _ _ _ _ _ (number v) (c .before .if1 .left) (c .if2 .left) (entry v .pre)
+    count-read _ _ _ _ _ _ (number v) (c .before .if1 .left) (c .if2 .left) (entry v .pre)
 
 pub read-count-spec : {M : Type 1} → statement M
 read-count-spec =

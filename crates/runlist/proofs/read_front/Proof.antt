@@ -56,7 +56,7 @@ returns : tie.Need-returns
 returns c =
     let r = c .before .before .before .before .before in
     let e = r .read-numbers .ensures in
-    (no-head (list r) _ _ _ (entry r .args .head .now) _ (entry r .pre) (e .1) _ _ (sym (e .0) ∙ c .before .refusal .given .1), seven-filled r)
+    (no-head (list r) _ (entry r .args .head .now) _ (entry r .pre) (e .1) _ _ (sym (e .0) ∙ c .before .refusal .given .1), seven-filled r)
 
 same-length-2 : tie.Need-same-length-2
 same-length-2 c = search needs
@@ -66,7 +66,7 @@ returns-2 c =
     let s = c .before in
     let n = ended s in
     let r = read n in (
-      headed-by (list r) _ _ _ (entry r .args .head .now) _ (entry r .pre) (r .read-numbers .ensures .1) _ _ _ (row-ended n) (s .settings-of .ensures) (c .read-rest .ensures),
+      headed-by (list r) _ (entry r .args .head .now) _ (entry r .pre) (r .read-numbers .ensures .1) _ _ _ (row-ended n) (s .settings-of .ensures) (c .read-rest .ensures),
       seven-filled r,
     )
 

@@ -35,13 +35,13 @@ valid-requires : tie.Need-valid-requires
 valid-requires c κs = search needs
 
 returns : tie.Need-returns
-returns c = unsettled _ _ _ _ _ _ (sym (c .before .valid .ensures) ∙ not-true _ (c .if1 .taken))
+returns c = unsettled _ _ _ _ (sym (c .before .valid .ensures) ∙ not-true _ (c .if1 .taken))
 
 right-lengths-requires : tie.Need-right-lengths-requires
 right-lengths-requires c κs = valid-so c
 
 returns-2 : tie.Need-returns-2
-returns-2 c = wrong-lengths _ _ _ _ _ _ (valid-so (c .before .before)) (sym (c .before .right-lengths .ensures) ∙ not-true _ (c .if2 .taken))
+returns-2 c = wrong-lengths _ _ _ _ (valid-so (c .before .before)) (sym (c .before .right-lengths .ensures) ∙ not-true _ (c .if2 .taken))
 
 sub-if3 : tie.Need-sub-if3
 sub-if3 c = search needs
@@ -50,7 +50,7 @@ returns-3 : tie.Need-returns-3
 returns-3 c =
     let e = entry (c .before .before .before .before) in
     let short : length (list e) < e .args .at + e .args .z = omega (arith, c .if3 .taken, e .pre) in
-    cut-short _ _ _ _ _ _ (valid-so (c .before .before .before)) (long-so (c .before)) short
+    cut-short _ _ _ _ (valid-so (c .before .before .before)) (long-so (c .before)) short
 
 read-count-requires : tie.Need-read-count-requires
 read-count-requires c κs = z-there c
@@ -58,7 +58,7 @@ read-count-requires c κs = z-there c
 returns-4 : tie.Need-returns-4
 returns-4 c =
     let t = c .before in
-    gone-on _ _ _ _ _ _ (valid-so (t .before .before .before)) (long-so (t .before)) (z-there t) _ (c .read-count .ensures)
+    gone-on _ _ _ _ (valid-so (t .before .before .before)) (long-so (t .before)) (z-there t) _ (c .read-count .ensures)
 
 pub read-rest-spec : {M : Type 1} → statement M
 read-rest-spec =

@@ -6,7 +6,7 @@ use mathlib.Core.List.{List}
 use lib.ListN.{length, take}
 use lib.Seq.{length-take-le}
 use Rattle.settings.specs.declared.Settings.{Settings}
-use Rattle.runlist.specs.Plan.{mostWords, planOf}
+use Rattle.runlist.specs.Plan.{lengthsOf, mostWords, planOf}
 use Rattle.machine.specs.Loop.{Ready}
 use Rattle.machine.proofs.Executing.{is-ready}
 use Rattle.runlist.specs.Rooms.{goesOn, FrontRead}
@@ -41,9 +41,9 @@ head c = c .read-front .last .1 .1 .1 .1 .0
 
 -- what was promised of them, where words follow
 known : (c : tie.After-at)
-    → FrontRead (entry (read c) .args .list .now) (length (entry (read c) .args .z .now)) (length (entry (read c) .args .za .now))
-    (length (entry (read c) .args .report .now)) (head (read c)) (Words (place c) (from c) (count c))
-known c = subst (FrontRead _ _ _ _ _) (c .at .given .1) (read c .read-front .ensures .0)
+    → FrontRead (entry (read c) .args .list .now) (lengthsOf (entry (read c) .args .z .now) (entry (read c) .args .za .now) (entry (read c) .args .report .now))
+    (head (read c)) (Words (place c) (from c) (count c))
+known c = subst (FrontRead _ _ _) (c .at .given .1) (read c .read-front .ensures .0)
 
 -- Z and ZA are as long as the settings ask for
 ready : (c : tie.After-settings-of) → Ready (c .settings-of .result) (entry (read (settled c)) .args .z .now) (entry (read (settled c)) .args .za .now)
@@ -55,7 +55,7 @@ ready c =
 -- a room of n words makes up the plan, where n is the count
 planned : (c : tie.After-settings-of) (n : ℕ) → n ≡ count (settled c)
     → goesOn (c .settings-of .result) (entry (read (settled c)) .args .list .now) (place (settled c)) (length (entry (read (settled c)) .args .z .now)) (from (settled c)) n
-    ≡ planOf (entry (read (settled c)) .args .list .now) (length (entry (read (settled c)) .args .z .now)) (length (entry (read (settled c)) .args .za .now)) (length (entry (read (settled c)) .args .report .now))
+    ≡ planOf (entry (read (settled c)) .args .list .now) (lengthsOf (entry (read (settled c)) .args .z .now) (entry (read (settled c)) .args .za .now) (entry (read (settled c)) .args .report .now))
 planned c n e =
     let g = settled c in
     let a = entry (read g) .args in
@@ -131,7 +131,7 @@ returns-2 c =
     let r = c .before .before .before .before in
     let a = entry r .args in
     refused-run (a .list .now) (a .z .now) (a .za .now) (a .report .now) _ _
-    (subst (FrontRead _ _ _ _ _) (c .before .refusal .given .1) (r .read-front .ensures .0) .says)
+    (subst (FrontRead _ _ _) (c .before .refusal .given .1) (r .read-front .ensures .0) .says)
 
 same-length-4 : tie.Need-same-length-4
 same-length-4 c = search needs
