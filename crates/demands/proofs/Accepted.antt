@@ -9,7 +9,7 @@ use lib.ListN.{getD}
 use Rattle.settings.specs.Lengths.{VectorLength}
 use Rattle.settings.specs.Valid.{vectorBytes, arrayBytes}
 use Rattle.settings.specs.declared.Settings.{Settings}
-use Rattle.settings.proofs.Lengths.{vector-length, array-length, same-length}
+use Rattle.settings.proofs.Lengths.{vector-length, array-length, vector-bits, same-length}
 use Rattle.words.specs.Ranges.{Ranges}
 use Rattle.words.specs.declared.Family.{Family}
 use Rattle.words.specs.declared.Family.the-variants.{ByElement, Vector, Saturating, LongLong, Long}
@@ -24,14 +24,15 @@ use Rattle.recipes.specs.Element.{chosen}
 use Rattle.recipes.proofs.Inside.{bits-of-lane}
 use Rattle.recipes.proofs.Sizes.{half-in-bits, bits-of-doubled, bits-of-quadrupled, in-half, InBits, newOf}
 use Rattle.machine.specs.Step.{register, zAfter, stride, selected, firstVector, zaAfter}
-use Rattle.machine.specs.Execute.{steppedBy, stepped}
+use Rattle.machine.specs.Execute.{stepped}
 use Rattle.machine.specs.Loop.{IntoZa}
+use Rattle.machine.proofs.Stepping.{steppedZ, steppedZa, written-z, written-za}
 use Rattle.machine.proofs.Grid.{rows-distinct, row-lt}
-use Rattle.machine.proofs.Array.{grid, first-multiple}
+use Rattle.machine.proofs.Array.{grid, first-multiple, passes}
 use Rattle.demands.specs.Execution.{VL, Accepted, KeepsIfRefused, SameLengths, StillBytes, CountsToggled, AtMostWritten}
 use Rattle.demands.specs.Execution.{ElementsA, ElementsB, ElementsC, ElementsZa}
 use Rattle.demands.specs.Execution.{zaVector, Among, First, Distinct, Exact}
-use Rattle.demands.proofs.Effects.{z-length, z-bytes, z-few, z-elsewhere, z-element, za-length, za-bytes, za-few, among, named, za-elsewhere, za-element}
+use Rattle.demands.proofs.Effects.{z-length, z-bytes, z-few, z-elsewhere, z-element, za-length, za-bytes, za-few, among, za-elsewhere, za-element}
 use Rattle.demands.proofs.Outcomes.{accepted-ranges, by-step, stepped-number}
 
 -- ---- the elements that the recipes choose, with 64/lane for the elements of a half
@@ -57,32 +58,35 @@ module _ (s : Settings) (w : ℕ) (f : Fields) (z za : List ℕ) (a : Accepted s
   g : Ranges f
   g = accepted-ranges s w z za f a
 
+  array-bits : 8 * arrayBytes s ≡ VL s
+  array-bits = ap (λ (n : ℕ). 8 * n) (same-length s) ∙ vector-bits s (a .valid)
+
   -- ---- of every step
 
   pub step-accepts : KeepsIfRefused z za (stepped s f z za)
   step-accepts n = absurd (n (stepped-number s f z za))
 
   pub step-lengths : SameLengths z za (stepped s f z za)
-  step-lengths = by-step s f z za (SameLengths z za) (z-length s v f g z (a .z-exact), refl) (λ i. (refl, za-length s v-za f g i z za (a .za-exact)))
+  step-lengths = by-step s f z za (SameLengths z za) (λ _. (z-length s v f g z (a .z-exact), refl)) (λ i. (refl, za-length s v-za f g i z za (a .za-exact)))
 
   pub step-bytes : StillBytes z za (stepped s f z za)
   step-bytes =
       by-step s f z za (StillBytes z za)
-      (λ b c. (z-bytes s v f g z (a .z-exact) b, c))
+      (λ _ b c. (z-bytes s v f g z (a .z-exact) b, c))
       (λ i b c. (b, za-bytes s v-za f g i z za (a .za-exact) c))
 
   pub step-toggled : CountsToggled z za (stepped s f z za)
-  step-toggled = by-step s f z za (CountsToggled z za) refl (λ _. refl)
+  step-toggled = by-step s f z za (CountsToggled z za) (λ _. refl) (λ _. refl)
 
   pub step-few : AtMostWritten z za (stepped s f z za)
   step-few =
       by-step s f z za (AtMostWritten z za)
-      (rw (toggled-same za) (omega (arith, z-few s v f g z (a .z-exact))))
+      (λ i. rw (toggled-same za, written-z s f (a .valid) i) (omega (arith, z-few s v f g z (a .z-exact))))
       (λ i.
       let k : ℕ = perSource (f .family) in
       let e : f .group * k * (8 * arrayBytes s) ≡ VL s * f .group * k =
-      rw same-length (mul-comm (f .group * k) (VL s) ∙ sym (mul-assoc (VL s) (f .group) k)) in
-      rw (toggled-same z) (omega (arith, za-few s v-za f g i z za (a .za-exact))))
+      rw array-bits (mul-comm (f .group * k) (VL s) ∙ sym (mul-assoc (VL s) (f .group) k)) in
+      rw (toggled-same z, written-za s f i) (omega (arith, za-few s v-za f g i z za (a .za-exact))))
 
   -- ---- the elements that are new, by the family's recipe
 
@@ -103,34 +107,34 @@ module _ (s : Settings) (w : ℕ) (f : Fields) (z za : List ℕ) (a : Accepted s
   double : (r : Recipe) → r .lane ≡ sizeOf (f .lane) → r .wide ≡ doubled (sizeOf (f .lane)) → InBits r (f .lane) (2 * f .lane)
   double r l d = record { lane-bits = rw l (bits-of-lane (g .lane)); wide-bits = rw d (bits-of-doubled (g .lane)) }
 
-  pub elements-a : f .family ≡ ByElement → ElementsA s f z za (steppedBy ByElement s f z za)
+  pub elements-a : f .family ≡ ByElement → ElementsA s f z za (steppedZ s f z za)
   unfolding step
   elements-a q e h =
       in-z ByElement q (double (recipeOf ByElement f 0) refl refl) e (rw (← in-half (g .lane)) h)
       ∙ rw (at-half (f .part) e (f .lane) (g .lane), zero-mul e, zero-add (f .index))
 
-  pub elements-b : f .family ≡ Vector → ElementsB s f z za (steppedBy Vector s f z za)
+  pub elements-b : f .family ≡ Vector → ElementsB s f z za (steppedZ s f z za)
   unfolding step
   elements-b q e h =
       in-z Vector q (double (recipeOf Vector f 0) refl refl) e (rw (← in-half (g .lane)) h)
       ∙ rw (at-half (f .part) e (f .lane) (g .lane))
 
-  pub elements-c : f .family ≡ Saturating → ElementsC s f z za (steppedBy Saturating s f z za)
+  pub elements-c : f .family ≡ Saturating → ElementsC s f z za (steppedZ s f z za)
   unfolding step
   elements-c q e h =
-      in-z Saturating q (double (recipeOf Saturating f 0) refl refl) e h
+      in-z Saturating q (double (recipeOf Saturating f 0) refl refl) e (rw (vector-bits s (a .valid)) h)
       ∙ rw (at-segment (f .index) e (f .lane) (g .lane))
 
-  pub elements-d : f .family ≡ LongLong → ElementsZa 4 s f z za (steppedBy LongLong s f z za)
+  pub elements-d : f .family ≡ LongLong → ElementsZa 4 s f z za (steppedZa s f z za)
   unfolding step
   elements-d q r i e hr hi h =
       in-za LongLong q (inl q) r i (4 * f .lane) hr hi
-      (record { lane-bits = bits-of-lane (g .lane); wide-bits = bits-of-quadrupled (in-family f g LongLong q .1) }) e (rw same-length h)
+      (record { lane-bits = bits-of-lane (g .lane); wide-bits = bits-of-quadrupled (in-family f g LongLong q .1) }) e (rw array-bits h)
 
-  pub elements-e : f .family ≡ Long → ElementsZa 2 s f z za (steppedBy Long s f z za)
+  pub elements-e : f .family ≡ Long → ElementsZa 2 s f z za (steppedZa s f z za)
   unfolding step
   elements-e q r i e hr hi h =
-      in-za Long q (inr q) r i (2 * f .lane) hr hi (double (recipeOf Long f i) refl refl) e (rw same-length h)
+      in-za Long q (inr q) r i (2 * f .lane) hr hi (double (recipeOf Long f i) refl refl) e (rw array-bits h)
 
   -- ---- what is not new
 
@@ -146,8 +150,8 @@ module _ (s : Settings) (w : ℕ) (f : Fields) (z za : List ℕ) (a : Accepted s
   -- ---- the vectors of ZA that the word writes
 
   stride-in-bits : stride s f ≡ VL s / 8 / f .group
-  unfolding stride
-  stride-in-bits = ap (λ (x : ℕ). x / f .group) (same-length s ∙ omega arith)
+  unfolding stride arrayBytes
+  stride-in-bits = refl
 
   pub first : IntoZa f → First (perSource (f .family)) s f
   unfolding firstVector selected
@@ -172,6 +176,6 @@ module _ (s : Settings) (w : ℕ) (f : Fields) (z za : List ℕ) (a : Accepted s
         there = row-lt (grid s v-za f g into);
         exactly = λ u h. (
           among s v-za f g into u h,
-          λ m. rw (m .is) (named s v-za f g into (m .r) (m .i) (m .i-below)),
+          λ m. rw (m .is) (passes s v-za f g into (m .r) (m .i) (m .r-below) (m .i-below)),
         );
       }

@@ -30,8 +30,8 @@ use Rattle.recipes.specs.Element.{newBytes}
 use Rattle.recipes.proofs.Built.{whole-elements, length-newBytes, Bytes-newBytes}
 use Rattle.recipes.proofs.Inside.{new-length}
 use Rattle.machine.specs.Step.{register, newRegister, zAfter, stride, firstVector, writesVector, newVector, zaAfter}
-use Rattle.machine.specs.Loop.{place, fresh, IntoZa}
-use Rattle.machine.proofs.Grid.{row-of, within-row, row-lt, row-written, by-row, place-distinct}
+use Rattle.machine.specs.Loop.{place, becomes, IntoZa}
+use Rattle.machine.proofs.Grid.{row-of, within-row, row-lt, by-row, place-distinct}
 use Rattle.machine.proofs.Array.{grid, tested, passes, placed, array-is}
 use Rattle.machine.proofs.Registers.{long-x, long-register, register-is}
 use Rattle.recipes.proofs.Sizes.{InBits, newOf, bytes-of-wide, counted-in-bits, element-in-bits}
@@ -113,9 +113,6 @@ module _ (s : Settings) (v : VectorLength (arrayBytes s)) (f : Fields) (g : Rang
       let b = by-row (grid s v f g into) u h (tested s v f g into u e) in
       record { r = u / stride s f; i = u % stride s f - firstVector s f; r-below = b .0; i-below = b .1; is = sym (b .2) }
 
-  pub named : (r i : ℕ) → i < perSource (f .family) → writesVector s f (firstVector s f + r * stride s f + i) ≡ true
-  named r i h = passes s v f g into (firstVector s f + r * stride s f + i) (row-written (grid s v f g into) r i h)
-
 module _ (s : Settings) (v : VectorLength (arrayBytes s)) (f : Fields) (g : Ranges f) (into : IntoZa f) (z za : List ℕ)
     (long : length za ≡ arrayBytes s * arrayBytes s) where
   abbrev k : ℕ
@@ -125,7 +122,7 @@ module _ (s : Settings) (v : VectorLength (arrayBytes s)) (f : Fields) (g : Rang
   at-za = place (firstVector s f) (stride s f) k
 
   abbrev new-za : ℕ → List ℕ
-  new-za = fresh f (arrayBytes s) (firstVector s f) (stride s f) k z za
+  new-za = becomes f (arrayBytes s) (firstVector s f) (stride s f) k z za
 
   pub za-length : length (zaAfter s f z za) ≡ length za
   za-length =
@@ -133,7 +130,7 @@ module _ (s : Settings) (v : VectorLength (arrayBytes s)) (f : Fields) (g : Rang
       (length-replaced at-za new-za (arrayBytes s) (arrayBytes s) za (f .group * k) (placed s v f g into z za long))
 
   pub za-bytes : Bytes za → Bytes (zaAfter s f z za)
-  unfolding fresh
+  unfolding becomes
   za-bytes b =
       rw (← array-is s v f g into z za long)
       (Bytes-replaced at-za new-za (arrayBytes s) (arrayBytes s) za (f .group * k) (λ q h. Bytes-newBytes _ (arrayBytes s) _ _ _) b)
@@ -164,7 +161,7 @@ module _ (s : Settings) (v : VectorLength (arrayBytes s)) (f : Fields) (g : Rang
       let u : ℕ = firstVector s f + r * stride s f + i in
       let a : u / stride s f ≡ r = row-of (grid s v f g into) r i hi in
       let b : u % stride s f - firstVector s f ≡ i = omega (arith, within-row (grid s v f g into) r i hi) in
-      each-za u (row-lt (grid s v f g into) r i hr hi) ∙ rw (named s v f g into r i hi, a, b)
+      each-za u (row-lt (grid s v f g into) r i hr hi) ∙ rw (passes s v f g into r i hr hi, a, b)
 
   pub za-element : (r i lane wide : ℕ) → r < f .group → i < perSource (f .family) → InBits (recipeOf (f .family) f i) lane wide
       → (e : ℕ) → e < 8 * arrayBytes s / wide

@@ -3,6 +3,7 @@ use Prim.Native.Nat.{ℕ, _*_}
 use native.Mathlib.Omega.{arith}
 use mathlib.Core.Path.{_≡_, refl, sym, ap, _∙_, subst}
 use mathlib.Core.Logic.{inl, inr, ⊎-elim, _≢_}
+use mathlib.Core.Bool.{cond}
 use mathlib.Core.List.{List}
 use Rattle.settings.specs.Valid.{vectorBytes}
 use Rattle.settings.specs.declared.Settings.{Settings}
@@ -12,14 +13,16 @@ use Rattle.words.specs.declared.Family.the-variants.{ByElement, Vector, Saturat
 use Rattle.words.specs.declared.Fields.{Fields}
 use Rattle.bits.proofs.Bits.{toggled-same}
 use Rattle.recipes.specs.Recipe.{perSource}
-use Rattle.machine.specs.Execute.{Outcome, refusedWith, steppedBy, stepped}
+use Rattle.machine.specs.Execute.{Outcome, refusedWith, intoZa, stepped}
+use Rattle.machine.specs.Step.{zAfter, zaAfter}
 use Rattle.machine.specs.Loop.{IntoZa}
+use Rattle.machine.proofs.Stepping.{steppedTo}
 use Rattle.machine.proofs.Small.{counts-small}
 use Rattle.demands.specs.Execution.{VL, LengthIsVL, Accepted, AcceptedSteps, AcceptedExactly, AlwaysInOrder}
 use Rattle.demands.specs.Execution.{Always, KeepsIfRefused, SameLengths, StillBytes, CountsToggled, AtMostWritten, FewWritten}
 use Rattle.demands.specs.Execution.{Whenever, ElementsA, ElementsB, ElementsC, ElementsZa, WrittenIs, ElsewhereZ, ZElsewhere, ElsewhereZa}
 use Rattle.demands.specs.Execution.{WheneverZa, First, Distinct, Exact}
-use Rattle.demands.proofs.Outcomes.{accepted, in-order, IsRefused, refused-or-accepted, stepped-as, stepped-number}
+use Rattle.demands.proofs.Outcomes.{accepted, in-order, IsRefused, refused-or-accepted, stepped-number}
 use Rattle.demands.proofs.Accepted.{step-accepts, step-lengths, step-bytes, step-toggled, step-few}
 use Rattle.demands.proofs.Accepted.{elements-a, elements-b, elements-c, elements-d, elements-e, out-z, out-za, first, distinct, exact}
 
@@ -76,21 +79,32 @@ few-written s w z za = counts-small s w z za .1
 
 -- ---- where a word of a family is accepted
 
+-- what a word of the family leaves in Z and in ZA
+abbrev leftZ : Family → Settings → Fields → List ℕ → List ℕ
+leftZ family s f z = cond (intoZa family) z (zAfter s f z)
+
+abbrev leftZa : Family → Settings → Fields → List ℕ → List ℕ → List ℕ
+leftZa family s f z za = cond (intoZa family) (zaAfter s f z za) za
+
 -- what holds of the family's step holds of the outcome
 whenever : (family : Family) (P : Settings → Fields → List ℕ → List ℕ → Outcome → Type 0)
-    → ((s : Settings) (w : ℕ) (f : Fields) (z za : List ℕ) → Accepted s w f z za → f .family ≡ family → P s f z za (steppedBy family s f z za))
+    → ((s : Settings) (w : ℕ) (f : Fields) (z za : List ℕ) → Accepted s w f z za → f .family ≡ family
+    → P s f z za (steppedTo s f z za (leftZ family s f z) (leftZa family s f z za)))
     → Whenever family P
+unfolding stepped
 whenever family P h s w f z za a e =
-    subst (P s f z za) (sym (accepted-steps s w f z za a ∙ stepped-as s f z za family e)) (h s w f z za a e)
+    subst (P s f z za)
+    (sym (accepted-steps s w f z za a ∙ ap (λ (x : Family). steppedTo s f z za (leftZ x s f z) (leftZa x s f z za)) e))
+    (h s w f z za a e)
 
 pub written-is : WrittenIs
 written-is =
     record {
-      in-a = whenever ByElement (λ s f z za o. o .written ≡ 128) (λ s w f z za a e. refl);
-      in-b = whenever Vector (λ s f z za o. o .written ≡ 128) (λ s w f z za a e. refl);
-      in-c = whenever Saturating (λ s f z za o. o .written ≡ VL s) (λ s w f z za a e. refl);
-      in-d = whenever LongLong (λ s f z za o. o .written ≡ VL s * f .group * 4) (λ s w f z za a e. refl);
-      in-e = whenever Long (λ s f z za o. o .written ≡ VL s * f .group * 2) (λ s w f z za a e. refl);
+      in-a = whenever ByElement (λ s f z za o. o .written ≡ 128) (λ s w f z za a e. rw e);
+      in-b = whenever Vector (λ s f z za o. o .written ≡ 128) (λ s w f z za a e. rw e);
+      in-c = whenever Saturating (λ s f z za o. o .written ≡ VL s) (λ s w f z za a e. rw e);
+      in-d = whenever LongLong (λ s f z za o. o .written ≡ VL s * f .group * 4) (λ s w f z za a e. rw e);
+      in-e = whenever Long (λ s f z za o. o .written ≡ VL s * f .group * 2) (λ s w f z za a e. rw e);
     }
 
 pub by-element-step : Whenever ByElement ElementsA

@@ -2,6 +2,7 @@ pub mod Effects
 pub mod Outcomes
 pub mod Accepted
 pub mod Execution
+pub mod Permitted
 pub mod Undoing
 pub mod Sweep
 pub mod SweepExamples

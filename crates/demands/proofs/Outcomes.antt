@@ -11,15 +11,14 @@ use Rattle.settings.specs.declared.Refusal.the-variants.{BadSettings, BadLength
 use Rattle.settings.specs.declared.Settings.{Settings}
 use Rattle.settings.proofs.Refusals.{not-0}
 use Rattle.words.specs.Says.{Described, As, Nothing, describe}
-use Rattle.words.specs.Decode.{enables, noFields, enabledOnly, decodeEnabled}
+use Rattle.words.specs.Decode.{enables, noFields, enabledOnly, decodeEnabled, decodePaper}
 use Rattle.words.specs.Ranges.{Ranges}
-use Rattle.words.specs.declared.Family.{Family}
 use Rattle.words.specs.declared.Fields.{Fields}
 use Rattle.machine.specs.Modes.{permits}
-use Rattle.machine.specs.Execute.{Outcome, refusedWith, steppedBy, stepped, rightLengths, executePaper}
+use Rattle.machine.specs.Execute.{Outcome, refusedWith, stepped, rightLengths, executePaper}
 use Rattle.machine.specs.Loop.{IntoZa, Ready}
-use Rattle.machine.proofs.Stepping.{which-file, steppedZ, steppedZa, stepped-z, stepped-za}
-use Rattle.machine.proofs.Executing.{word-ranges, not-valid, not-long, lengths-right, is-ready, not-decoded, is-decoded, not-permitted, is-permitted}
+use Rattle.machine.proofs.Stepping.{IntoZ, which-file, steppedZ, steppedZa, stepped-z, stepped-za}
+use Rattle.machine.proofs.Executing.{word-ranges, not-valid, not-long, lengths-right, is-ready, not-decoded, not-permitted, is-permitted}
 use Rattle.demands.specs.Execution.{Accepted, RefusedInOrder}
 
 -- decoding gives 0 or 3
@@ -28,9 +27,9 @@ enabled-number features (As f) =
     cond-holds (λ (p : ℕ × Fields). (p .0 ≡ 0) ⊎ (p .0 ≡ 3)) (enables features f) (0, f) (3, noFields) (λ _. inl refl) (λ _. inr refl)
 enabled-number features Nothing = inr refl
 
-decoded-number : (features w : ℕ) → (decodeEnabled features w .0 ≡ 0) ⊎ (decodeEnabled features w .0 ≡ 3)
-unfolding decodeEnabled
-decoded-number features w = enabled-number features (describe w)
+decoded-number : (s : Settings) (w : ℕ) → validSettings s ≡ true → (decodePaper s w .0 ≡ 0) ⊎ (decodePaper s w .0 ≡ 3)
+unfolding decodePaper decodeEnabled
+decoded-number s w v = rw v (enabled-number (s .features .0) (describe w))
 
 module _ (s : Settings) (w : ℕ) (z za : List ℕ) where
   lengths-wrong : validSettings s ≡ true → (length z ≢ 32 * vectorBytes s) ⊎ (length za ≢ arrayBytes s * arrayBytes s) → rightLengths s (length z) (length za) ≡ false
@@ -45,38 +44,39 @@ module _ (s : Settings) (w : ℕ) (z za : List ℕ) where
   refused-2 : validSettings s ≡ true → rightLengths s (length z) (length za) ≡ false → executePaper s w z za ≡ refusedWith 2 z za
   refused-2 v l = sym (not-long s z za w v l)
 
-  refused-3 : validSettings s ≡ true → rightLengths s (length z) (length za) ≡ true → (n : ℕ) → decodeEnabled (s .features .0) w .0 ≡ n → n ≢ 0
-      → executePaper s w z za ≡ refusedWith n z za
-  refused-3 v l n d h = sym (not-decoded s z za w n (is-ready s z za v l) d h)
+  refused-3 : validSettings s ≡ true → rightLengths s (length z) (length za) ≡ true → decodePaper s w .0 ≢ 0 → executePaper s w z za ≡ refusedWith 3 z za
+  refused-3 v l h = sym (not-decoded s z za w (is-ready s z za v l) h)
 
-  refused-4 : validSettings s ≡ true → rightLengths s (length z) (length za) ≡ true → (f : Fields) → decodeEnabled (s .features .0) w ≡ (0, f)
+  refused-4 : validSettings s ≡ true → rightLengths s (length z) (length za) ≡ true → (f : Fields) → decodePaper s w ≡ (0, f)
       → permits (s .features .0) (s .modes .0) (f .family) ≡ false → executePaper s w z za ≡ refusedWith 4 z za
-  refused-4 v l f d p = sym (not-permitted s z za f p ∙ is-decoded s z za w f (is-ready s z za v l) d)
+  refused-4 v l f d p = sym (not-permitted s z za w f (is-ready s z za v l) d p)
 
   -- and what is done where none is due
   pub accepted : (f : Fields) → Accepted s w f z za → executePaper s w z za ≡ stepped s f z za
   accepted f a =
       let ready : Ready s z za = record { valid = a .valid; z-long = a .z-exact; za-long = a .za-exact } in
-      sym (is-permitted s z za f (a .permitted) ∙ is-decoded s z za w f ready (a .decodes))
+      sym (is-permitted s z za w f ready (a .decodes) (a .permitted))
 
   pub in-order : RefusedInOrder s w z za
   in-order =
       record {
         by-settings = refused-1;
         by-lengths = λ v l. refused-2 v (lengths-wrong v l);
-        by-word = λ v p q n d h. (refused-3 v (lengths-right s _ _ p q) n d h, three n d h);
+        by-word = λ v p q n d h.
+            let e : n ≡ 3 = three v n d h in
+            (refused-3 v (lengths-right s _ _ p q) (λ o. h (sym d ∙ o)) ∙ ap (λ (m : ℕ). refusedWith m z za) (sym e), e);
         by-mode = λ v p q. refused-4 v (lengths-right s _ _ p q);
       }
     where
-      three : (n : ℕ) → decodeEnabled (s .features .0) w .0 ≡ n → n ≢ 0 → n ≡ 3
-      three n d h = ⊎-elim (λ e. absurd (h (sym d ∙ e))) (λ e. sym d ∙ e) (decoded-number (s .features .0) w)
+      three : validSettings s ≡ true → (n : ℕ) → decodePaper s w .0 ≡ n → n ≢ 0 → n ≡ 3
+      three v n d h = ⊎-elim (λ e. absurd (h (sym d ∙ e))) (λ e. sym d ∙ e) (decoded-number s w v)
 
   -- ---- a word is refused or accepted
 
   abbrev pub IsRefused : Type 0
   IsRefused = (n : ℕ) × ((n ≢ 0) × (executePaper s w z za ≡ refusedWith n z za))
 
-  at-word : (f : Fields) → validSettings s ≡ true → rightLengths s (length z) (length za) ≡ true → decodeEnabled (s .features .0) w ≡ (0, f)
+  at-word : (f : Fields) → validSettings s ≡ true → rightLengths s (length z) (length za) ≡ true → decodePaper s w ≡ (0, f)
       → (p : Bool) → permits (s .features .0) (s .modes .0) (f .family) ≡ p → IsRefused ⊎ ((f : Fields) × Accepted s w f z za)
   at-word f v l d true p =
       let e = is-ready s z za v l in
@@ -86,11 +86,11 @@ module _ (s : Settings) (w : ℕ) (z za : List ℕ) where
   at-lengths : validSettings s ≡ true → (l : Bool) → rightLengths s (length z) (length za) ≡ l → IsRefused ⊎ ((f : Fields) × Accepted s w f z za)
   at-lengths v false l = inl (2, (not-0 BadLength, refused-2 v l))
   at-lengths v true l =
-      let d : ℕ × Fields = decodeEnabled (s .features .0) w in
+      let d : ℕ × Fields = decodePaper s w in
       ⊎-elim
       (λ (e : d .0 ≡ 0). at-word (d .1) v l (ap (λ (n : ℕ). (n, d .1)) e) (permits (s .features .0) (s .modes .0) (d .1 .family)) refl)
-      (λ (e : d .0 ≡ 3). inl (3, (not-0 UnknownWord, refused-3 v l 3 e (not-0 UnknownWord))))
-      (decoded-number (s .features .0) w)
+      (λ (e : d .0 ≡ 3). inl (3, (not-0 UnknownWord, refused-3 v l (λ o. not-0 UnknownWord (sym e ∙ o)))))
+      (decoded-number s w v)
 
   at-settings : (v : Bool) → validSettings s ≡ v → IsRefused ⊎ ((f : Fields) × Accepted s w f z za)
   at-settings false v = inl (1, (not-0 BadSettings, refused-1 v))
@@ -101,19 +101,15 @@ module _ (s : Settings) (w : ℕ) (z za : List ℕ) where
 
   -- the fields of an accepted word are in range
   pub accepted-ranges : (f : Fields) → Accepted s w f z za → Ranges f
-  accepted-ranges f a = word-ranges s w f (a .valid) (a .decodes)
+  accepted-ranges f a = word-ranges s w f (a .decodes)
 
--- ---- the outcome of a step, family by family
+-- ---- the outcome of a step, by the file that it writes
 
 module _ (s : Settings) (f : Fields) (z za : List ℕ) where
-  pub stepped-as : (family : Family) → f .family ≡ family → stepped s f z za ≡ steppedBy family s f z za
-  unfolding stepped
-  stepped-as family e = ap (λ (x : Family). steppedBy x s f z za) e
-
   -- what holds of a step into Z and of one into ZA holds of every step
-  pub by-step : (P : Outcome → Type 0) → P (steppedZ s f z za) → (IntoZa f → P (steppedZa s f z za)) → P (stepped s f z za)
+  pub by-step : (P : Outcome → Type 0) → (IntoZ f → P (steppedZ s f z za)) → (IntoZa f → P (steppedZa s f z za)) → P (stepped s f z za)
   by-step P a b =
-      ⊎-elim (λ i. subst P (sym (stepped-z s f z za i)) a) (λ i. subst P (sym (stepped-za s f z za i)) (b i)) (which-file f)
+      ⊎-elim (λ i. subst P (sym (stepped-z s f z za i)) (a i)) (λ i. subst P (sym (stepped-za s f z za i)) (b i)) (which-file f)
 
   pub stepped-number : stepped s f z za .number ≡ 0
-  stepped-number = by-step (λ o. o .number ≡ 0) refl (λ _. refl)
+  stepped-number = by-step (λ o. o .number ≡ 0) (λ _. refl) (λ _. refl)

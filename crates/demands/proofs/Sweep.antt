@@ -9,7 +9,6 @@ use borrow.Author.Tests.{eqb-true, eqb-false, eq-eqb}
 use Rattle.laws.specs.Lists.{Each}
 use Rattle.laws.proofs.Tests.{cond-ne, cond-holds}
 use Rattle.settings.specs.declared.Settings.{Settings}
-use Rattle.words.specs.Decode.{decodePaper}
 use Rattle.words.specs.Partner.{partnerWord, turned, isC, partnerPaper}
 use Rattle.words.specs.declared.Fields.{Fields}
 use Rattle.words.proofs.Answers.{not-c, partner-accepted, PartnerOf}
@@ -42,21 +41,16 @@ module _ (s : Settings) (w : ℕ) (z za : List ℕ) where
   abbrev o : Outcome
   o = executePaper s w z za
 
-  -- decode accepts what execute accepts
-  decoded : (f : Fields) → Accepted s w f z za → decodePaper s w ≡ (0, f)
-  unfolding decodePaper
-  decoded f a = rw (a .valid, a .decodes)
-
   -- the partner is accepted where the word left Z and ZA
   partner-in-turn : (f : Fields) → Accepted s w f z za → PartnerOf s w (partnerWord w) f → Accepted s (partnerWord w) (turned f) (executePaper s w z za .z) (executePaper s w z za .za)
-  unfolding turned decodePaper
+  unfolding turned
   partner-in-turn f a p =
       let l = lengths-kept s w z za in
       record {
         valid = a .valid;
         z-exact = l .0 ∙ a .z-exact;
         za-exact = l .1 ∙ a .za-exact;
-        decodes = rw (a .valid) at (p .decodes);
+        decodes = p .decodes;
         permitted = a .permitted;
       }
 
@@ -65,7 +59,7 @@ module _ (s : Settings) (w : ℕ) (z za : List ℕ) where
       → undoPaper s w (executePaper s w z za .z) (executePaper s w z za .za) ≡ undoneFrom (executePaper s w z za) z za
   unfolding undoPaper
   undone f a bz bza c p =
-      let q = partner-accepted s w f (decoded f a) c in
+      let q = partner-accepted s w f (a .decodes) c in
       rw (q .0)
       (accepted-steps s (partnerWord w) (turned f) (o .z) (o .za) (partner-in-turn f a (q .1))
       ∙ subst (λ (x : Outcome). stepped s (turned f) (x .z) (x .za) ≡ undoneFrom x z za) (sym (accepted-steps s w f z za a)) (step-back s w f z za a bz bza c p))
@@ -74,7 +68,7 @@ module _ (s : Settings) (w : ℕ) (z za : List ℕ) where
       → undoPaper s w (executePaper s w z za .z) (executePaper s w z za .za) ≡ undoneFrom (executePaper s w z za) z za
   word-undone bz bza n c p =
       let (f, a) = accepted-exactly s w z za .0 n in
-      undone f a bz bza (not-c (f .family) .0 (c f (decoded f a))) (p f (decoded f a))
+      undone f a bz bza (not-c (f .family) .0 (c f (a .decodes))) (p f (a .decodes))
 
 -- ---- the run
 

@@ -19,10 +19,10 @@ use Rattle.elements.specs.Files.{vectorAt, laid, renewed}
 use Rattle.elements.proofs.Vectors.{Bytes-vector}
 use Rattle.recipes.specs.Element.{newBytes}
 use Rattle.machine.specs.Step.{register, newRegister, zAfter}
-use Rattle.machine.specs.Execute.{stepped, executeFields, executePaper}
+use Rattle.machine.specs.Execute.{stepped, executePaper}
 use Rattle.machine.specs.Run.{Report, Run}
 use Rattle.demands.specs.Sweep.{SourcesApart, acceptedWith}
-use Rattle.demands.specs.SweepExamples.{Given, settings, startZ, startZa, Answer, answerOf, ownFirst, ownSecond, saturates, unknown, wrongMode, answers-hold}
+use Rattle.demands.specs.SweepExamples.{Given, sweepSettings, startZ, startZa, Answer, sweepAnswer, ownFirst, ownSecond, saturates, unknown, wrongMode, answers-hold}
 use Rattle.demands.specs.SweepExamples.{closing, ClosesFrom, AllBytes, AllAccepted, NoneSaturating, NoneItsOwnSource, AllMet, StaysOpen, EachNeeded}
 use Rattle.demands.proofs.Sweep.{sweep-closes}
 
@@ -32,18 +32,18 @@ first-number (r ∷ rs) = r .0
 
 -- ---- answers that rule out that a sweep closes
 
-module _ (bytes r : ℕ) (g : Given) (x : Answer) (is : answerOf bytes r g ≡ x) where
+module _ (bytes r : ℕ) (g : Given) (x : Answer) (is : sweepAnswer bytes r g ≡ x) where
   -- an element did not come back
   moved : x .returned ≢ x .start → ClosesFrom g → ⊥
-  unfolding answerOf
+  unfolding sweepAnswer
   moved h e =
       h (sym (ap (λ (a : Answer). a .returned) is)
-      ∙ ap (λ (y : Run). element bytes (register (settings g) (y .z) r) 0) e
+      ∙ ap (λ (y : Run). element bytes (register (sweepSettings g) (y .z) r) 0) e
       ∙ ap (λ (a : Answer). a .start) is)
 
   -- the first partner was not accepted
   refused : first-number (x .backward) ≢ first-number (reverse (map acceptedWith (x .forward))) → ClosesFrom g → ⊥
-  unfolding answerOf
+  unfolding sweepAnswer
   refused h e =
       h (sym (ap (λ (a : Answer). first-number (a .backward)) is)
       ∙ ap (λ (y : Run). first-number (y .reports)) e
@@ -70,7 +70,7 @@ stays-open g Meets m n = record { bytes = all-bytes g; meets = m; not-closed = n
 
 -- what a word decodes to
 abbrev decoded : Given → ℕ → ℕ × Fields
-decoded g w = decodePaper (settings g) w
+decoded g w = decodePaper (sweepSettings g) w
 
 abbrev Wraps : Fields → Type 0
 Wraps f = f .family ≢ Saturating
@@ -83,7 +83,7 @@ apart : (d n m : ℕ) → eqb d n ≡ false → eqb d m ≡ false → (d ≢ n) 
 apart d n m p q = (eqb-false d n p, eqb-false d m q)
 
 pub all-met : AllMet
-unfolding decodePaper decodeEnabled describe enables validSettings vectorBytes arrayBytes executePaper executeFields stepped zAfter
+unfolding decodePaper decodeEnabled describe enables validSettings vectorBytes arrayBytes executePaper stepped zAfter
     newRegister renewed laid newBytes vector lowBytes vectorAt
 all-met =
     let accepted : AllAccepted closing = (refl, (refl, tt)) in
@@ -93,11 +93,11 @@ all-met =
       accepted,
       wrapping,
       sources,
-      sweep-closes (settings closing) (closing .words) (startZ closing) startZa (all-bytes closing .0) (all-bytes closing .1) accepted wrapping sources,
+      sweep-closes (sweepSettings closing) (closing .words) (startZ closing) startZa (all-bytes closing .0) (all-bytes closing .1) accepted wrapping sources,
     )
 
 pub each-needed : EachNeeded
-unfolding nth first-number decodePaper decodeEnabled describe enables validSettings vectorBytes arrayBytes executePaper executeFields stepped vector
+unfolding nth first-number decodePaper decodeEnabled describe enables validSettings vectorBytes arrayBytes executePaper stepped vector
     lowBytes
 each-needed =
     record {

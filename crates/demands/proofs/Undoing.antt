@@ -22,14 +22,14 @@ use Rattle.elements.specs.Files.{vectorAt}
 use Rattle.elements.proofs.Elements.{Bytes}
 use Rattle.elements.proofs.Files.{room, length-vectorAt, Bytes-vectorAt, renewed-undone}
 use Rattle.bits.proofs.Bits.{toggled-comm}
-use Rattle.recipes.specs.Recipe.{recipeOf, newLength, perSource}
+use Rattle.recipes.specs.Recipe.{recipeOf, newLength}
 use Rattle.recipes.proofs.Built.{length-newBytes}
 use Rattle.recipes.proofs.Inside.{new-length}
 use Rattle.recipes.proofs.Undone.{saturates-c, recipe-turned, undo-vector, undo-whole}
 use Rattle.machine.specs.Step.{register, newRegister, zAfter, stride, selected, firstVector, writesVector, newVector, zaAfter}
-use Rattle.machine.specs.Execute.{Outcome, counted, stepped}
+use Rattle.machine.specs.Execute.{Outcome, written, stepped}
 use Rattle.machine.specs.Loop.{IntoZa}
-use Rattle.machine.proofs.Stepping.{IntoZ, which-file, steppedZ, steppedZa, stepped-z, stepped-za}
+use Rattle.machine.proofs.Stepping.{IntoZ, which-file, steppedTo, steppedZ, steppedZa, stepped-z, stepped-za}
 use Rattle.machine.proofs.Registers.{long-register}
 use Rattle.demands.specs.Execution.{Accepted}
 use Rattle.demands.specs.Sweep.{SourcesApart}
@@ -102,9 +102,9 @@ abbrev pub undoneFrom : Outcome → List ℕ → List ℕ → Outcome
 undoneFrom o z za = record { number = 0; toggled = o .toggled; written = o .written; z = z; za = za }
 
 -- a step and the step back change the same bits
-counted-back : (written : ℕ) (z za z′ za′ : List ℕ) → counted written z′ za′ z za ≡ undoneFrom (counted written z za z′ za′) z za
-counted-back written z za z′ za′ =
-    ap (λ (t : ℕ). record { number = 0; toggled = t; written = written; z = z; za = za }) (ap₂ _+_ (toggled-comm z′ z) (toggled-comm za′ za))
+same-counts : (s : Settings) (f : Fields) (z za z′ za′ : List ℕ) → steppedTo s f z′ za′ z za ≡ undoneFrom (steppedTo s f z za z′ za′) z za
+same-counts s f z za z′ za′ =
+    ap (λ (t : ℕ). record { number = 0; toggled = t; written = written s f; z = z; za = za }) (ap₂ _+_ (toggled-comm z′ z) (toggled-comm za′ za))
 
 -- a word that writes a V register has single source registers, and neither is the destination
 abbrev Single : Fields → Type 0
@@ -133,24 +133,22 @@ module _ (s : Settings) (w : ℕ) (f : Fields) (z za : List ℕ) (a : Accepted s
   into-z : IntoZ f → SourcesApart (f .family) f → Back (steppedZ s f z za)
   unfolding turned
   into-z i p =
-      let n : ℕ = 8 * newLength (f .family) (vectorBytes s) in
       let q : Single f = single f i g c p in
       let same : zAfter s (turned f) (zAfter s f z) ≡ z =
       z-back s (vector-length s (a .valid)) f g z (a .z-exact) bz (wraps 0)
       (omega (arith, g .first, q .0)) (omega (arith, g .second, q .0)) (q .1) (q .2) in
       stepped-z s (turned f) (zAfter s f z) za i
-      ∙ ap (λ (x : List ℕ). counted n (zAfter s f z) za x za) same
-      ∙ counted-back n z za (zAfter s f z) za
+      ∙ ap (λ (x : List ℕ). steppedTo s f (zAfter s f z) za x za) same
+      ∙ same-counts s f z za (zAfter s f z) za
 
   into-za : IntoZa f → Back (steppedZa s f z za)
   unfolding turned
   into-za i =
-      let n : ℕ = 8 * vectorBytes s * f .group * perSource (f .family) in
       let same : zaAfter s (turned f) z (zaAfter s f z za) ≡ za =
       za-back s (array-length s (a .valid)) f g i z za (a .za-exact) bza wraps in
       stepped-za s (turned f) z (zaAfter s f z za) i
-      ∙ ap (λ (x : List ℕ). counted n z (zaAfter s f z za) z x) same
-      ∙ counted-back n z za z (zaAfter s f z za)
+      ∙ ap (λ (x : List ℕ). steppedTo s f z (zaAfter s f z za) z x) same
+      ∙ same-counts s f z za z (zaAfter s f z za)
 
   pub step-back : SourcesApart (f .family) f → stepped s (turned f) (stepped s f z za .z) (stepped s f z za .za) ≡ undoneFrom (stepped s f z za) z za
   step-back p =

@@ -7,7 +7,7 @@ use mathlib.Core.List.{List}
 use lib.ListN.{length, getD}
 use Rattle.settings.specs.Valid.{validSettings, vectorBytes, arrayBytes}
 use Rattle.settings.specs.declared.Settings.{Settings}
-use Rattle.words.specs.Decode.{decodeEnabled}
+use Rattle.words.specs.Decode.{decodePaper}
 use Rattle.words.specs.declared.Family.{Family}
 use Rattle.words.specs.declared.Family.the-variants.{ByElement, Vector, Saturating, LongLong, Long}
 use Rattle.words.specs.declared.Fields.{Fields}
@@ -21,11 +21,11 @@ use Rattle.machine.specs.Execute.{Outcome, refusedWith, stepped, executePaper}
 
 -- VL
 abbrev pub VL : Settings → ℕ
-VL s = 8 * vectorBytes s
+VL s = s .vl
 
--- it is the settings' own; a vector of ZA is as long
+-- a Z register has VL bits; a vector of ZA is as long
 abbrev pub LengthIsVL : Type 0
-LengthIsVL = (s : Settings) → validSettings s ≡ true → (VL s ≡ s .vl) × (8 * arrayBytes s ≡ s .vl)
+LengthIsVL = (s : Settings) → validSettings s ≡ true → (8 * vectorBytes s ≡ VL s) × (8 * arrayBytes s ≡ VL s)
 
 -- vector v of ZA
 abbrev pub zaVector : Settings → List ℕ → ℕ → List ℕ
@@ -38,7 +38,7 @@ pub record Accepted (s : Settings) (w : ℕ) (f : Fields) (z za : List ℕ) : Ty
   pub valid : validSettings s ≡ true
   pub z-exact : length z ≡ 32 * vectorBytes s
   pub za-exact : length za ≡ arrayBytes s * arrayBytes s
-  pub decodes : decodeEnabled (s .features .0) w ≡ (0, f)
+  pub decodes : decodePaper s w ≡ (0, f)
   pub permitted : permits (s .features .0) (s .modes .0) (f .family) ≡ true
 
 -- an accepted word is done
@@ -55,9 +55,9 @@ pub record RefusedInOrder (s : Settings) (w : ℕ) (z za : List ℕ) : Type 0 wh
   pub by-lengths : validSettings s ≡ true → (length z ≢ 32 * vectorBytes s) ⊎ (length za ≢ arrayBytes s * arrayBytes s)
       → executePaper s w z za ≡ refusedWith 2 z za
   pub by-word : validSettings s ≡ true → length z ≡ 32 * vectorBytes s → length za ≡ arrayBytes s * arrayBytes s
-      → (n : ℕ) → decodeEnabled (s .features .0) w .0 ≡ n → n ≢ 0 → (executePaper s w z za ≡ refusedWith n z za) × (n ≡ 3)
+      → (n : ℕ) → decodePaper s w .0 ≡ n → n ≢ 0 → (executePaper s w z za ≡ refusedWith n z za) × (n ≡ 3)
   pub by-mode : validSettings s ≡ true → length z ≡ 32 * vectorBytes s → length za ≡ arrayBytes s * arrayBytes s
-      → (f : Fields) → decodeEnabled (s .features .0) w ≡ (0, f) → permits (s .features .0) (s .modes .0) (f .family) ≡ false
+      → (f : Fields) → decodePaper s w ≡ (0, f) → permits (s .features .0) (s .modes .0) (f .family) ≡ false
       → executePaper s w z za ≡ refusedWith 4 z za
 
 abbrev pub AlwaysInOrder : Type 0

@@ -1,4 +1,5 @@
 pub mod Execution
+pub mod Permitted
 pub mod Sweep
 pub mod SweepExamples
 pub mod Calls

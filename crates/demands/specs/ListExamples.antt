@@ -7,7 +7,7 @@ use Rattle.settings.specs.Valid.{validSettings, vectorBytes, arrayBytes}
 use Rattle.settings.specs.declared.Refusal.{Refusal}
 use Rattle.settings.specs.declared.Refusal.the-variants.{BadSettings, BadLength, ListEnds, BadNumber, TooManyWords, ExtraBytes}
 use Rattle.words.specs.Says.{describe}
-use Rattle.words.specs.Decode.{enables, decodeEnabled}
+use Rattle.words.specs.Decode.{enables, decodeEnabled, decodePaper}
 use Rattle.elements.specs.Elements.{elementAt, lowBytes, vector}
 use Rattle.elements.specs.Files.{vectorAt, renewed}
 use Rattle.lanes.specs.Lane.{SInt, Int, low, product, accumulate, laneStep, step}
@@ -15,8 +15,8 @@ use Rattle.bits.specs.Bits.{overBits, overBytes}
 use Rattle.numbers.specs.Numbers.{numeral, numberAt, numbersAt}
 use Rattle.tally.specs.declared.Tally.{Tally}
 use Rattle.recipes.specs.Element.{newElement, newBytes}
-use Rattle.machine.specs.Step.{stride, selected, firstVector, writesVector, newVector, zaAfter}
-use Rattle.machine.specs.Execute.{stepped, executeFields, executePaper}
+use Rattle.machine.specs.Step.{stride, selected, firstVector, someBelow, writesVector, newVector, zaAfter}
+use Rattle.machine.specs.Execute.{stepped, executePaper}
 use Rattle.machine.specs.Run.{runOf}
 use Rattle.runlist.specs.Plan.{Lent, Asked, found, refused, wordsFrom, zFrom, settledFrom, settingsOf, planOf}
 use Rattle.runlist.specs.RunList.{Ended, noTally, tallied, threes, refusedAt, runPaper}
@@ -73,8 +73,8 @@ firstZa = runPaper (beforeCount ++ 0x01 ∷ take 5 threeWords) lentZ lentZa (len
 words-run : (paperRun 9 ≡ paperRan []) × (paperRun 11 ≡ paperRan (77 ∷ 77 ∷ []))
     × (firstZa ≡ replicate 64 0xFF ++ replicate 64 0x00 ++ replicate 64 0xFF ++ replicate 64 0x00)
 unfolding runPaper planOf settingsOf settledFrom zFrom wordsFrom numbersAt numberAt numeral runOf tallied threes
-    executePaper executeFields stepped decodeEnabled describe enables validSettings vectorBytes arrayBytes
-    zaAfter newVector writesVector firstVector selected stride newBytes newElement renewed vectorAt vector elementAt lowBytes
+    executePaper stepped decodePaper decodeEnabled describe enables validSettings vectorBytes arrayBytes
+    zaAfter newVector writesVector someBelow firstVector selected stride newBytes newElement renewed vectorAt vector elementAt lowBytes
     step laneStep accumulate product SInt Int low overBits overBytes
 words-run = (refl, refl, refl)
 

@@ -14,8 +14,8 @@ use Rattle.elements.specs.Files.{vectorAt, laid, renewed}
 use Rattle.lanes.specs.Lane.{SInt, Int, low, product, accumulate, laneStep, clamp, SignedSat, satStep, step}
 use Rattle.bits.specs.Bits.{overBits, overBytes}
 use Rattle.recipes.specs.Element.{newElement, newBytes}
-use Rattle.machine.specs.Step.{register, newRegister, zAfter, stride, selected, firstVector, writesVector, newVector, zaAfter}
-use Rattle.machine.specs.Execute.{stepped, executeFields, executePaper}
+use Rattle.machine.specs.Step.{register, newRegister, zAfter, stride, selected, firstVector, someBelow, writesVector, newVector, zaAfter}
+use Rattle.machine.specs.Execute.{stepped, executePaper}
 use Rattle.machine.specs.Run.{Report, runOf}
 use Rattle.demands.specs.Sweep.{there, undoPaper, back, AcceptedInTurn, NotSaturating, NotItsOwnSource, Closes}
 
@@ -28,8 +28,8 @@ pub record Given : Type 0 where
   -- every 16 bits of Z; ZA is all zeros
   pub each : ℕ
 
-abbrev pub settings : Given → Settings
-settings g = record { vl = 128; features = record { 0 = g .features }; modes = record { 0 = g .modes }; select = 0 ∷ 0 ∷ 0 ∷ 0 ∷ [] }
+abbrev pub sweepSettings : Given → Settings
+sweepSettings g = record { vl = 128; features = record { 0 = g .features }; modes = record { 0 = g .modes }; select = 0 ∷ 0 ∷ 0 ∷ 0 ∷ [] }
 
 abbrev pub startZ : Given → List ℕ
 startZ g = vector (λ e. g .each) 2 256
@@ -49,14 +49,14 @@ pub record Answer : Type 0 where
   pub backward : List Report
 
 -- of elements of so many bytes, in a register
-unfoldable pub answerOf : ℕ → ℕ → Given → Answer
-answerOf bytes r g =
+unfoldable pub sweepAnswer : ℕ → ℕ → Given → Answer
+sweepAnswer bytes r g =
     record {
-      start = element bytes (register (settings g) (startZ g) r) 0;
-      after = element bytes (register (settings g) (there (settings g) (g .words) (startZ g) startZa .z) r) 0;
-      returned = element bytes (register (settings g) (back (settings g) (g .words) (startZ g) startZa .z) r) 0;
-      forward = there (settings g) (g .words) (startZ g) startZa .reports;
-      backward = back (settings g) (g .words) (startZ g) startZa .reports;
+      start = element bytes (register (sweepSettings g) (startZ g) r) 0;
+      after = element bytes (register (sweepSettings g) (there (sweepSettings g) (g .words) (startZ g) startZa .z) r) 0;
+      returned = element bytes (register (sweepSettings g) (back (sweepSettings g) (g .words) (startZ g) startZa .z) r) 0;
+      forward = there (sweepSettings g) (g .words) (startZ g) startZa .reports;
+      backward = back (sweepSettings g) (g .words) (startZ g) startZa .reports;
     }
 
 -- ---- the sweeps
@@ -100,8 +100,8 @@ line bytes register given start after returned forward backward =
       answer = record { start = start; after = after; returned = returned; forward = forward; backward = backward };
     }
 
-abbrev pub table : List Line
-table =
+abbrev pub sweeps : List Line
+sweeps =
     line 2 3 closing 0x0101 0x0103 0x0101 ((0, 16, 128) ∷ (0, 12, 128) ∷ []) ((0, 12, 128) ∷ (0, 16, 128) ∷ [])
     ∷ line 2 1 ownFirst 0x0101 0x0102 0x0100 ((0, 16, 128) ∷ []) ((0, 12, 128) ∷ [])
     ∷ line 2 2 ownSecond 0x0101 0x0102 0x0100 ((0, 16, 128) ∷ []) ((0, 12, 128) ∷ [])
@@ -113,41 +113,41 @@ table =
     ∷ []
 
 -- the definitions answer each line as the table does
-pub answers-hold : map (λ (l : Line). answerOf (l .bytes) (l .register) (l .given)) table ≡ map (λ (l : Line). l .answer) table
-unfolding answerOf decodePaper decodeEnabled describe enables validSettings vectorBytes arrayBytes
+pub answers-hold : map (λ (l : Line). sweepAnswer (l .bytes) (l .register) (l .given)) sweeps ≡ map (λ (l : Line). l .answer) sweeps
+unfolding sweepAnswer decodePaper decodeEnabled describe enables validSettings vectorBytes arrayBytes
     elementAt lowBytes vector vectorAt laid renewed SInt Int low product accumulate laneStep clamp SignedSat satStep step overBits overBytes
-    newElement newBytes newRegister zAfter stride selected firstVector writesVector newVector zaAfter stepped executeFields executePaper
+    newElement newBytes newRegister zAfter stride selected firstVector someBelow writesVector newVector zaAfter stepped executePaper
     runOf undoPaper partnerWord partnerPaper
 answers-hold = refl
 
 -- register 0 after 44BA3820 with S flipped is executed where 44BA3820 led
 unfoldable pub flipped : ℕ
 flipped =
-    element 4 (executePaper (settings saturates) (partnerWord 0x44BA3820) (there (settings saturates) (saturates .words) (startZ saturates) startZa .z) startZa .z) 0
+    element 4 (executePaper (sweepSettings saturates) (partnerWord 0x44BA3820) (there (sweepSettings saturates) (saturates .words) (startZ saturates) startZa .z) startZa .z) 0
 
 -- it was 80008000
 pub flipped-is : flipped ≡ 0xFFFFFFFF
 unfolding flipped partnerWord decodePaper decodeEnabled describe enables validSettings vectorBytes arrayBytes
     elementAt lowBytes vector vectorAt laid renewed SInt Int low product accumulate laneStep clamp SignedSat satStep step overBits overBytes
-    newElement newBytes newRegister zAfter stride selected firstVector writesVector newVector zaAfter stepped executeFields executePaper runOf
+    newElement newBytes newRegister zAfter stride selected firstVector someBelow writesVector newVector zaAfter stepped executePaper runOf
 flipped-is = refl
 
 -- ---- which of them close (proofs/SweepExamples.antt)
 
 abbrev pub ClosesFrom : Given → Type 0
-ClosesFrom g = Closes (settings g) (g .words) (startZ g) startZa
+ClosesFrom g = Closes (sweepSettings g) (g .words) (startZ g) startZa
 
 abbrev pub AllBytes : Given → Type 0
 AllBytes g = Bytes (startZ g) × Bytes startZa
 
 abbrev pub AllAccepted : Given → Type 0
-AllAccepted g = AcceptedInTurn (executePaper (settings g)) (g .words) (startZ g) startZa
+AllAccepted g = AcceptedInTurn (executePaper (sweepSettings g)) (g .words) (startZ g) startZa
 
 abbrev pub NoneSaturating : Given → Type 0
-NoneSaturating g = Each (NotSaturating (settings g)) (g .words)
+NoneSaturating g = Each (NotSaturating (sweepSettings g)) (g .words)
 
 abbrev pub NoneItsOwnSource : Given → Type 0
-NoneItsOwnSource g = Each (NotItsOwnSource (settings g)) (g .words)
+NoneItsOwnSource g = Each (NotItsOwnSource (sweepSettings g)) (g .words)
 
 -- the first meets every premise, so the premises can be met together; and it closes
 abbrev pub AllMet : Type 0

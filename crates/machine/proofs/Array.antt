@@ -1,15 +1,15 @@
 -- The ZA vectors of a word: where they are, and that writing one after the other comes to ZA after the step. Assumes nothing.
-use Prim.Native.Nat.{ℕ, _+_, _-_, _*_, _/_, _%_, _≤_, _<_}
+use Prim.Native.Nat.{ℕ, zero, suc, _+_, _-_, _*_, _/_, _%_, _≤_, _<_}
 use native.Mathlib.Nat.{mod-lt}
 use native.Mathlib.Omega.{arith}
-use mathlib.Core.Path.{_≡_, refl, ap, _∙_}
+use mathlib.Core.Path.{_≡_, refl, sym, ap, _∙_, subst}
 use mathlib.Core.Logic.{_⊎_, inl, inr}
-use mathlib.Core.Bool.{true}
+use mathlib.Core.Bool.{Bool, true, false, _||_}
 use mathlib.Core.List.{List}
-use lib.Dec.{leb, ltb}
+use lib.Dec.{eqb}
 use lib.ListN.{length, getD}
-use borrow.Author.Tests.{leb-true, le-leb, ltb-true, lt-ltb}
-use Rattle.laws.proofs.Tests.{both}
+use borrow.Author.Tests.{eqb-true, eq-eqb}
+use Rattle.laws.proofs.Tests.{never-both, either, by-lt}
 use Rattle.settings.specs.Lengths.{VectorLength}
 use Rattle.settings.specs.Valid.{arrayBytes}
 use Rattle.settings.specs.declared.Settings.{Settings}
@@ -22,9 +22,30 @@ use Rattle.recipes.specs.Recipe.{perSource}
 use Rattle.recipes.proofs.Built.{length-newBytes}
 use Rattle.elements.specs.Files.{vectorAt, replaced}
 use Rattle.elements.proofs.Files.{Placed, Names, renewed-cong, replaced-renewed}
-use Rattle.machine.specs.Step.{stride, selected, firstVector, writesVector, newVector, zaAfter}
-use Rattle.machine.specs.Loop.{Grid, place, fresh, IntoZa}
-use Rattle.machine.proofs.Grid.{Written, which, place-lt, place-distinct, place-which, place-written, which-lt, which-row}
+use Rattle.machine.specs.Step.{stride, selected, firstVector, someBelow, writesVector, newVector, zaAfter}
+use Rattle.machine.specs.Loop.{Grid, place, becomes, IntoZa}
+use Rattle.machine.proofs.Grid.{Written, row-written, which, place-lt, place-distinct, place-which, which-lt, which-row, r-lt, i-lt}
+
+-- a number below n that passes
+pub some-below : (n : ℕ) (test : ℕ → Bool) → someBelow n test ≡ true → (i : ℕ) × ((i < n) × (test i ≡ true))
+unfolding someBelow
+some-below zero test e = absurd (never-both _ refl (sym e))
+some-below (suc n) test e =
+    either (test n) (someBelow n test) e
+    (λ t. (n, (omega arith, t)))
+    (λ t. let b = some-below n test t in (b .0, (omega (arith, b .1 .0), b .1 .1)))
+
+pub below-some : (n : ℕ) (test : ℕ → Bool) (i : ℕ) → i < n → test i ≡ true → someBelow n test ≡ true
+unfolding someBelow
+below-some zero test i h t = absurd (omega arith)
+below-some (suc n) test i h t =
+    by-lt i n
+    (λ l. rw (below-some n test i l t) (or-true (test n)))
+    (λ l. let e : i ≡ n = omega arith in rw (← e, t))
+  where
+    or-true : (b : Bool) → (b || true) ≡ true
+    or-true true = refl
+    or-true false = refl
 
 -- the group, as a word has it
 pub group-numbers : (f : Fields) → Ranges f → IntoZa f → (f .group ≡ 2) ⊎ (f .group ≡ 4)
@@ -55,8 +76,8 @@ over-numbers w group k x v = go
 
 -- the first n of a word's vectors are there, and the new ones are as long
 pub placed-to : (f : Fields) {w stride k first : ℕ} → VectorLength w → Grid w (f .group) stride k first → (z za : List ℕ) → length za ≡ w * w
-    → (n : ℕ) → n ≤ f .group * k → Placed (place first stride k) (fresh f w first stride k z za) w w n za
-unfolding fresh
+    → (n : ℕ) → n ≤ f .group * k → Placed (place first stride k) (becomes f w first stride k z za) w w n za
+unfolding becomes
 placed-to f {w} v g z za long n h =
     record {
       long = long;
@@ -79,15 +100,18 @@ module _ (s : Settings) (v : VectorLength (arrayBytes s)) (f : Fields) (g : Rang
 
   -- the test of the definition says so
   pub tested : (u : ℕ) → writesVector s f u ≡ true → Written grid u
-  unfolding writesVector Written
+  unfolding writesVector
   tested u e =
-      let b = both (leb (firstVector s f) (u % stride s f)) (ltb (u % stride s f) (firstVector s f + perSource (f .family))) e in
-      (leb-true (firstVector s f) (u % stride s f) (b .0), ltb-true (u % stride s f) (firstVector s f + perSource (f .family)) (b .1))
+      let r = some-below (f .group) (λ r. someBelow (perSource (f .family)) (λ i. eqb u (firstVector s f + r * stride s f + i))) e in
+      let i = some-below (perSource (f .family)) (λ i. eqb u (firstVector s f + r .0 * stride s f + i)) (r .1 .1) in
+      subst (Written grid) (sym (eqb-true u _ (i .1 .1))) (row-written grid (r .0) (i .0) (i .1 .0))
 
-  pub passes : (u : ℕ) → Written grid u → writesVector s f u ≡ true
-  unfolding writesVector Written
-  passes u y =
-      rw (le-leb (firstVector s f) (u % stride s f) (y .0), lt-ltb (u % stride s f) (firstVector s f + perSource (f .family)) (y .1))
+  pub passes : (r i : ℕ) → r < f .group → i < perSource (f .family) → writesVector s f (firstVector s f + r * stride s f + i) ≡ true
+  unfolding writesVector
+  passes r i hr hi =
+      let u : ℕ = firstVector s f + r * stride s f + i in
+      below-some (f .group) (λ r. someBelow (perSource (f .family)) (λ i. eqb u (firstVector s f + r * stride s f + i))) r hr
+      (below-some (perSource (f .family)) (λ i. eqb u (firstVector s f + r * stride s f + i)) i hi (eq-eqb u u refl))
 
   module _ (z a : List ℕ) (long : length a ≡ arrayBytes s * arrayBytes s) where
     abbrev w : ℕ
@@ -100,22 +124,26 @@ module _ (s : Settings) (v : VectorLength (arrayBytes s)) (f : Fields) (g : Rang
     at = place (firstVector s f) (stride s f) k
 
     abbrev new : ℕ → List ℕ
-    new = fresh f w (firstVector s f) (stride s f) k z a
+    new = becomes f w (firstVector s f) (stride s f) k z a
 
     pub placed : Placed at new w w (f .group * k) a
     placed = placed-to f v grid z a long (f .group * k) (omega arith)
+
+    passes-at : (q : ℕ) → q < f .group * k → writesVector s f (at q) ≡ true
+    unfolding place
+    passes-at q h = passes (q / k) (q % k) (r-lt grid q h) (i-lt grid q)
 
     names : Names at (which grid) (writesVector s f) w (f .group * k)
     names =
         record {
           named = λ u h e. (which-lt grid u h (tested u e), place-which grid u h (tested u e));
-          all = λ q h. passes (at q) (place-written grid q);
+          all = passes-at;
         }
 
     -- the vectors by their number are those by r and i
     by-number : (u : ℕ) → u < w → writesVector s f u ≡ true
         → new (which grid u) ≡ newVector s f z (u / stride s f) (u % stride s f - firstVector s f) (vectorAt w u a)
-    unfolding fresh newVector
+    unfolding becomes newVector
     by-number u h e =
         let y = tested u e in
         let r = which-row grid u y in

@@ -1,13 +1,13 @@
 -- The tests before a step, in their order. Assumes nothing.
 use Prim.Native.Nat.{ℕ, _*_}
-use mathlib.Core.Path.{_≡_, ap₂, _∙_}
+use mathlib.Core.Path.{_≡_, refl, ap, ap₂, _∙_}
 use mathlib.Core.Logic.{_≢_}
-use mathlib.Core.Bool.{true, false, _&&_}
+use mathlib.Core.Bool.{true, false, not, _&&_}
 use mathlib.Core.List.{List}
 use lib.Dec.{eqb}
 use lib.ListN.{length}
 use borrow.Author.Tests.{eqb-true, eq-eqb, ne-eqb}
-use Rattle.laws.proofs.Tests.{both}
+use Rattle.laws.proofs.Tests.{both, cond-yes, cond-no}
 use Rattle.settings.specs.Valid.{validSettings, vectorBytes, arrayBytes}
 use Rattle.settings.specs.declared.Settings.{Settings}
 use Rattle.words.specs.Decode.{decodeEnabled, decodePaper}
@@ -16,13 +16,17 @@ use Rattle.words.specs.declared.Fields.{Fields}
 use Rattle.words.proofs.Answers.{decodes-exactly}
 use Rattle.words.proofs.Ranges.{in-range}
 use Rattle.machine.specs.Modes.{permits}
-use Rattle.machine.specs.Execute.{refusedWith, stepped, executeFields, rightLengths, executePaper}
+use Rattle.machine.specs.Execute.{refusedWith, stepped, rightLengths, executePaper}
 use Rattle.machine.specs.Loop.{Ready}
 
--- an accepted word's fields are in range
-pub word-ranges : (s : Settings) (w : ℕ) (f : Fields) → validSettings s ≡ true → decodeEnabled (s .features .0) w ≡ (0, f) → Ranges f
+-- decode under valid settings, by the features
+pub decodes-to : (s : Settings) (w : ℕ) (d : ℕ × Fields) → validSettings s ≡ true → decodeEnabled (s .features .0) w ≡ d → decodePaper s w ≡ d
 unfolding decodePaper
-word-ranges s w f v e = in-range w f (decodes-exactly s w f .0 (rw v e) .says)
+decodes-to s w d v e = rw v e
+
+-- an accepted word's fields are in range
+pub word-ranges : (s : Settings) (w : ℕ) (f : Fields) → decodePaper s w ≡ (0, f) → Ranges f
+word-ranges s w f e = in-range w f (decodes-exactly s w f .0 e .says)
 
 -- the test of the lengths passes where both are exact, and only there
 pub lengths-right : (s : Settings) (z za : ℕ) → z ≡ 32 * vectorBytes s → za ≡ arrayBytes s * arrayBytes s → rightLengths s z za ≡ true
@@ -50,22 +54,19 @@ module _ (s : Settings) (z za : List ℕ) where
       record { valid = v; z-long = exact .0; za-long = exact .1 }
 
   -- 3
-  pub not-decoded : (w n : ℕ) → Ready s z za → decodeEnabled (s .features .0) w .0 ≡ n → n ≢ 0 → refusedWith n z za ≡ executePaper s w z za
+  pub not-decoded : (w : ℕ) → Ready s z za → decodePaper s w .0 ≢ 0 → refusedWith 3 z za ≡ executePaper s w z za
   unfolding executePaper
-  not-decoded w n r e h = rw (r .valid, lengths-right s _ _ (r .z-long) (r .za-long), e, ne-eqb n 0 h)
+  not-decoded w r h = rw (r .valid, lengths-right s _ _ (r .z-long) (r .za-long), ne-eqb (decodePaper s w .0) 0 h)
 
-  pub is-decoded : (w : ℕ) (f : Fields) → Ready s z za → decodeEnabled (s .features .0) w ≡ (0, f) → executeFields s f z za ≡ executePaper s w z za
-  unfolding executePaper
-  is-decoded w f r e = rw (r .valid, lengths-right s _ _ (r .z-long) (r .za-long), e)
+  module _ (w : ℕ) (f : Fields) (r : Ready s z za) (e : decodePaper s w ≡ (0, f)) where
+    -- 4
+    pub not-permitted : permits (s .features .0) (s .modes .0) (f .family) ≡ false → refusedWith 4 z za ≡ executePaper s w z za
+    unfolding executePaper
+    not-permitted p = rw (r .valid, lengths-right s _ _ (r .z-long) (r .za-long), e) (cond-yes _ _ _ _ (ap not p) refl)
 
-  -- 4
-  pub not-permitted : (f : Fields) → permits (s .features .0) (s .modes .0) (f .family) ≡ false → refusedWith 4 z za ≡ executeFields s f z za
-  unfolding executeFields
-  not-permitted f e = rw e
-
-  pub is-permitted : (f : Fields) → permits (s .features .0) (s .modes .0) (f .family) ≡ true → stepped s f z za ≡ executeFields s f z za
-  unfolding executeFields
-  is-permitted f e = rw e
+    pub is-permitted : permits (s .features .0) (s .modes .0) (f .family) ≡ true → stepped s f z za ≡ executePaper s w z za
+    unfolding executePaper
+    is-permitted p = rw (r .valid, lengths-right s _ _ (r .z-long) (r .za-long), e) (cond-no _ _ _ _ (ap not p) refl)
 
 -- files of the same lengths are as ready
 pub still-ready : (s : Settings) (z za z′ za′ : List ℕ) → Ready s z za → length z′ ≡ length z → length za′ ≡ length za → Ready s z′ za′

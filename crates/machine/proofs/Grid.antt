@@ -82,7 +82,3 @@ module _ {w group stride k first : ℕ} (g : Grid w group stride k first) where
   place-which v h y =
       let r = which-row v y in
       ap₂ (λ (a b : ℕ). first + a * stride + b) (r .0) (r .1) ∙ by-row v h y .2
-
-  pub place-written : (q : ℕ) → Written (place first stride k q)
-  unfolding place
-  place-written q = row-written (q / k) (q % k) (i-lt q)

@@ -15,7 +15,7 @@ use Rattle.words.proofs.Ranges.{in-family}
 use Rattle.elements.specs.Files.{replaced}
 use Rattle.recipes.specs.Recipe.{perSource}
 use Rattle.machine.specs.Step.{stride, selected, firstVector, zaAfter}
-use Rattle.machine.specs.Loop.{Grid, place, fresh, IntoZa, Places}
+use Rattle.machine.specs.Loop.{Grid, place, becomes, IntoZa, Places}
 use Rattle.machine.proofs.Array.{group-numbers, two-or-four-vectors, grid, array-is}
 
 -- W8 to W11
@@ -52,7 +52,7 @@ module _ (s : Settings) {f : Fields} {z za : List ℕ} (p : Places f (arrayBytes
       ready = (rw ew p, rw (el, er, ew, en, ek) the-grid, ek)
 
       pub after : (za′ : List ℕ)
-          → za′ ≡ replaced (place first row k) (fresh f w first row k z za) w (f .group * k) za
+          → za′ ≡ replaced (place first row k) (becomes f w first row k z za) w (f .group * k) za
           → za′ ≡ zaAfter s f z za
       unfolding firstVector selected stride
       after za′ e = e ∙ rw (el, er, ew, en, ek) (array-is s (p .sources .width) f (p .sources .ranges) (p .into) z za (p .za-long))

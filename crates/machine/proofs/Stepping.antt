@@ -4,10 +4,11 @@ use native.Mathlib.Nat.{add-zero, zero-add}
 use native.Mathlib.Omega.{arith}
 use mathlib.Core.Path.{_≡_, refl, sym, ap, _∙_, subst}
 use mathlib.Core.Logic.{_⊎_, inl, inr}
+use mathlib.Core.Bool.{true}
 use mathlib.Core.List.{List}
-use Rattle.settings.specs.Valid.{vectorBytes, arrayBytes}
+use Rattle.settings.specs.Valid.{validSettings, vectorBytes, arrayBytes}
 use Rattle.settings.specs.declared.Settings.{Settings}
-use Rattle.settings.proofs.Lengths.{vector-length, vector-at-most, same-length}
+use Rattle.settings.proofs.Lengths.{vector-length, vector-at-most, vector-bits, same-length}
 use Rattle.words.specs.Ranges.{Ranges}
 use Rattle.words.specs.declared.Family.{Family}
 use Rattle.words.specs.declared.Family.the-variants.{ByElement, Vector, Saturating, LongLong, Long}
@@ -16,7 +17,7 @@ use Rattle.bits.specs.Bits.{toggled}
 use Rattle.bits.proofs.Bits.{toggled-same}
 use Rattle.recipes.specs.Recipe.{newLength, perSource}
 use Rattle.machine.specs.Step.{zAfter, zaAfter}
-use Rattle.machine.specs.Execute.{Outcome, counted, writtenBits, steppedBy, stepped, Stepped}
+use Rattle.machine.specs.Execute.{Outcome, written, stepped, Stepped}
 use Rattle.machine.specs.Loop.{RegisterRenewed, IntoZa, Sources, Places, Ready}
 use Rattle.machine.proofs.Registers.{register-is}
 
@@ -37,11 +38,15 @@ which-file f = by (f .family) refl
 
 -- what the step is of either kind
 module _ (s : Settings) (f : Fields) (z za : List ℕ) where
+  -- a step that leaves z′ and za′
+  abbrev pub steppedTo : List ℕ → List ℕ → Outcome
+  steppedTo z′ za′ = record { number = 0; toggled = toggled z z′ + toggled za za′; written = written s f; z = z′; za = za′ }
+
   abbrev pub steppedZ : Outcome
-  steppedZ = counted (8 * newLength (f .family) (vectorBytes s)) z za (zAfter s f z) za
+  steppedZ = steppedTo (zAfter s f z) za
 
   abbrev pub steppedZa : Outcome
-  steppedZa = counted (8 * vectorBytes s * f .group * perSource (f .family)) z za z (zaAfter s f z za)
+  steppedZa = steppedTo z (zaAfter s f z za)
 
   pub stepped-z : IntoZ f → stepped s f z za ≡ steppedZ
   unfolding stepped
@@ -53,6 +58,16 @@ module _ (s : Settings) (f : Fields) (z za : List ℕ) where
   unfolding stepped
   stepped-za (inl e) = rw e
   stepped-za (inr e) = rw e
+
+-- written is the bits of the vectors that the word writes
+pub written-z : (s : Settings) (f : Fields) → validSettings s ≡ true → IntoZ f → written s f ≡ 8 * newLength (f .family) (vectorBytes s)
+written-z s f v (inl e) = rw e
+written-z s f v (inr (inl e)) = rw e
+written-z s f v (inr (inr e)) = rw e (sym (vector-bits s v))
+
+pub written-za : (s : Settings) (f : Fields) → IntoZa f → written s f ≡ s .vl * f .group * perSource (f .family)
+written-za s f (inl e) = rw e
+written-za s f (inr e) = rw e
 
 module _ (s : Settings) (f : Fields) (z za : List ℕ) (p : Ready s z za) (g : Ranges f) (w : ℕ) (ew : w ≡ vectorBytes s) where
   pub sources-of : Sources f w z
@@ -100,26 +115,15 @@ module _ (s : Settings) (f : Fields) (z za : List ℕ) (p : Ready s z za) (g : R
 
 -- ---- the outcome, from the files and the counts
 
-by-family : (family : Family) (s : Settings) (f : Fields) (z za : List ℕ)
-    → (steppedBy family s f z za .number ≡ 0) × (steppedBy family s f z za .written ≡ writtenBits (8 * vectorBytes s) (f .group) family)
-by-family ByElement s f z za = (refl, refl)
-by-family Vector s f z za = (refl, refl)
-by-family Saturating s f z za = (refl, refl)
-by-family LongLong s f z za = (refl, refl)
-by-family Long s f z za = (refl, refl)
-
-pub outcome-is : (s : Settings) (f : Fields) (t n bytes : ℕ) (z za z′ za′ : List ℕ) → Stepped s f t z za z′ za′ → bytes ≡ vectorBytes s
-    → n ≡ writtenBits (8 * bytes) (f .group) (f .family) → _≡_ {A = Outcome} (record { number = 0; toggled = t; written = n; z = z′; za = za′ }) (stepped s f z za)
+pub outcome-is : (s : Settings) (f : Fields) (t n : ℕ) (z za z′ za′ : List ℕ) → Stepped s f t z za z′ za′ → n ≡ written s f
+    → _≡_ {A = Outcome} (record { number = 0; toggled = t; written = n; z = z′; za = za′ }) (stepped s f z za)
 unfolding stepped
-outcome-is s f t n bytes z za z′ za′ p eb en =
-    let q = by-family (f .family) s f z za in
-    let e : n ≡ stepped s f z za .written = en ∙ ap (λ (b : ℕ). writtenBits (8 * b) (f .group) (f .family)) eb ∙ sym (q .1) in
-    same-outcome (sym (q .0)) (p .bits) e (p .z-after) (p .za-after)
+outcome-is s f t n z za z′ za′ p en = same-outcome refl (p .bits) en (p .z-after) (p .za-after)
   where
     same-outcome : {o : Outcome} {k t n : ℕ} {z za : List ℕ} → k ≡ o .number → t ≡ o .toggled → n ≡ o .written → z ≡ o .z → za ≡ o .za
         → _≡_ {A = Outcome} (record { number = k; toggled = t; written = n; z = z; za = za }) o
     same-outcome {o} ek et en ez ea = rw (ek, et, en, ez, ea)
 
 -- a register has 2,048 bits at most
-pub bits-small : (s : Settings) (z za : List ℕ) → Ready s z za → (w : ℕ) → w ≡ vectorBytes s → 8 * w ≤ 2048
-bits-small s z za p w e = omega (arith, vector-length s (p .valid) .most)
+pub bits-small : (s : Settings) (z za : List ℕ) → Ready s z za → s .vl ≤ 2048
+bits-small s z za p = omega (arith, vector-bits s (p .valid), vector-length s (p .valid) .most)

@@ -19,7 +19,7 @@ use Rattle.bits.proofs.Files.{bytes-replaced}
 use Rattle.recipes.specs.Recipe.{recipeOf, perSource}
 use Rattle.recipes.specs.Element.{newBytes}
 use Rattle.recipes.proofs.Built.{length-newBytes}
-use Rattle.machine.specs.Loop.{made, Grid, place, fresh, Places}
+use Rattle.machine.specs.Loop.{made, Grid, place, becomes, Places}
 use Rattle.machine.proofs.Grid.{r-lt, i-lt, place-lt, place-distinct}
 use Rattle.machine.proofs.Array.{group-numbers, two-or-four-vectors, placed-to}
 
@@ -43,7 +43,7 @@ module _ {f : Fields} {w : ℕ} {z za₀ : List ℕ} (p : Places f w z za₀) {s
   at = place first stride k
 
   abbrev new : ℕ → List ℕ
-  new = fresh f w first stride k z za₀
+  new = becomes f w first stride k z za₀
 
   so-far : (n : ℕ) → n ≤ f .group * k → Placed at new w w n za₀
   so-far = placed-to f (p .sources .width) g z za₀ (p .za-long)
@@ -62,7 +62,7 @@ module _ {f : Fields} {w : ℕ} {z za₀ : List ℕ} (p : Places f w z za₀) {s
   turn-at : (q t d : ℕ) (za za′ : List ℕ) → q < f .group * k → za ≡ replaced at new w q za₀ → t ≡ toggled za₀ za
       → Replaced (at q * w) d (made f (q % k) w w (at q) za (f .first + q / k) (f .second + q / k) z) za za′
       → Turned q t d za′
-  unfolding fresh replaced
+  unfolding becomes replaced
   turn-at q t d za za′ h e et r =
       let old : vectorAt w (at q) za ≡ vectorAt w (at q) za₀ = ap (vectorAt w (at q)) e ∙ not-yet q h in
       let here : za′ ≡ splice (at q * w) (new q) (replaced at new w q za₀) =

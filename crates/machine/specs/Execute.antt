@@ -1,6 +1,6 @@
 -- What execute answers, and what it leaves in Z and ZA.
 use Prim.Native.Nat.{ℕ, _+_, _*_}
-use mathlib.Core.Bool.{Bool, _&&_, cond}
+use mathlib.Core.Bool.{Bool, true, false, not, _&&_, cond}
 use mathlib.Core.List.{List}
 use mathlib.Core.Path.{_≡_}
 use lib.Dec.{eqb}
@@ -8,7 +8,7 @@ use lib.ListN.{length}
 use Rattle.settings.specs.Valid.{validSettings, vectorBytes, arrayBytes}
 use Rattle.settings.specs.Refused.{refusalNumber}
 use Rattle.settings.specs.declared.Settings.{Settings}
-use Rattle.words.specs.Decode.{decodeEnabled}
+use Rattle.words.specs.Decode.{decodePaper}
 use Rattle.words.specs.declared.Family.{Family}
 use Rattle.words.specs.declared.Family.the-variants.{ByElement, Vector, Saturating, LongLong, Long}
 use Rattle.words.specs.declared.Fields.{Fields}
@@ -36,36 +36,23 @@ executedSays (Done c) z za = record { number = 0; toggled = c .toggled; written 
 executedSays (Refused r) z za = refusedWith (refusalNumber r) z za
 
 -- written is 128 in A and B, VL in C, VL·group·4 in D, VL·group·2 in E
-abbrev pub writtenBits : ℕ → ℕ → Family → ℕ
-writtenBits vl group ByElement = 128
-writtenBits vl group Vector = 128
-writtenBits vl group Saturating = vl
-writtenBits vl group LongLong = vl * group * 4
-writtenBits vl group Long = vl * group * 2
-
--- a step that leaves z′ and za′: toggled is the number of bits that differ in Z and ZA before and after
-abbrev pub counted : ℕ → List ℕ → List ℕ → List ℕ → List ℕ → Outcome
-counted written z za z′ za′ = record { number = 0; toggled = toggled z z′ + toggled za za′; written = written; z = z′; za = za′ }
+abbrev pub written : Settings → Fields → ℕ
+written s f = elim (f .family) [ ByElement ↦ 128 | Vector ↦ 128 | Saturating ↦ s .vl | LongLong ↦ s .vl * f .group * 4 | Long ↦ s .vl * f .group * 2 ]
 
 -- A, B and C write Z; D and E write ZA
-abbrev pub steppedBy : Family → Settings → Fields → List ℕ → List ℕ → Outcome
-steppedBy ByElement s f z za = counted (writtenBits (8 * vectorBytes s) (f .group) ByElement) z za (zAfter s f z) za
-steppedBy Vector s f z za = counted (writtenBits (8 * vectorBytes s) (f .group) Vector) z za (zAfter s f z) za
-steppedBy Saturating s f z za = counted (writtenBits (8 * vectorBytes s) (f .group) Saturating) z za (zAfter s f z) za
-steppedBy LongLong s f z za = counted (writtenBits (8 * vectorBytes s) (f .group) LongLong) z za z (zaAfter s f z za)
-steppedBy Long s f z za = counted (writtenBits (8 * vectorBytes s) (f .group) Long) z za z (zaAfter s f z za)
+abbrev pub intoZa : Family → Bool
+intoZa ByElement = false
+intoZa Vector = false
+intoZa Saturating = false
+intoZa LongLong = true
+intoZa Long = true
 
--- what the fields say, done
+-- the step of a word: toggled is the number of bits that differ in Z and ZA before and after
 unfoldable pub stepped : Settings → Fields → List ℕ → List ℕ → Outcome
-stepped s f z za = steppedBy (f .family) s f z za
-
--- 4 where the mode does not permit the family
-unfoldable pub executeFields : Settings → Fields → List ℕ → List ℕ → Outcome
-executeFields s f z za = cond (permits (s .features .0) (s .modes .0) (f .family)) (stepped s f z za) (refusedWith 4 z za)
-
--- 3 where decoding gives it
-abbrev pub executeDecoded : Settings → ℕ × Fields → List ℕ → List ℕ → Outcome
-executeDecoded s d z za = cond (eqb (d .0) 0) (executeFields s (d .1) z za) (refusedWith (d .0) z za)
+stepped s f z za =
+    let z′ : List ℕ = cond (intoZa (f .family)) z (zAfter s f z) in
+    let za′ : List ℕ = cond (intoZa (f .family)) (zaAfter s f z za) za in
+    record { number = 0; toggled = toggled z z′ + toggled za za′; written = written s f; z = z′; za = za′ }
 
 -- Z and ZA lengths are exact
 abbrev pub rightLengths : Settings → ℕ → ℕ → Bool
@@ -74,9 +61,12 @@ rightLengths s z za = eqb z (32 * vectorBytes s) && eqb za (arrayBytes s * array
 -- execute tests 1, 2, 3, 4
 unfoldable pub executePaper : Settings → ℕ → List ℕ → List ℕ → Outcome
 executePaper s w z za =
-    cond (validSettings s)
-    (cond (rightLengths s (length z) (length za)) (executeDecoded s (decodeEnabled (s .features .0) w) z za) (refusedWith 2 z za))
-    (refusedWith 1 z za)
+    let decoded : ℕ × Fields = decodePaper s w in
+    cond (not (validSettings s)) (refusedWith 1 z za)
+    (cond (not (rightLengths s (length z) (length za))) (refusedWith 2 z za)
+    (cond (not (eqb (decoded .0) 0)) (refusedWith 3 z za)
+    (cond (not (permits (s .features .0) (s .modes .0) (decoded .1 .family))) (refusedWith 4 z za)
+    (stepped s (decoded .1) z za))))
 
 -- what `execute` promises of its answer, and of Z and ZA at the call's end
 abbrev pub ExecutePromise : Settings → ℕ → List ℕ → List ℕ → Executed → List ℕ → List ℕ → Type 0

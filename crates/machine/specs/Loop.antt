@@ -35,9 +35,9 @@ unfoldable pub place : ℕ → ℕ → ℕ → ℕ → ℕ
 place first stride k q = first + q / k * stride + q % k
 
 -- what it becomes, where ZA was za
-unfoldable pub fresh : Fields → ℕ → ℕ → ℕ → ℕ → List ℕ → List ℕ → ℕ → List ℕ
+unfoldable pub becomes : Fields → ℕ → ℕ → ℕ → ℕ → List ℕ → List ℕ → ℕ → List ℕ
 unfolding place
-fresh f w first stride k z za q = made f (q % k) w w (place first stride k q) za (f .first + q / k) (f .second + q / k) z
+becomes f w first stride k z za q = made f (q % k) w w (place first stride k q) za (f .first + q / k) (f .second + q / k) z
 
 -- A and B
 abbrev pub IntoV : Fields → Type 0

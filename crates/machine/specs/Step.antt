@@ -1,8 +1,8 @@
 -- Document 01, "What a step does": the registers after a word, vector by vector.
-use Prim.Native.Nat.{ℕ, _+_, _-_, _/_, _%_}
-use mathlib.Core.Bool.{Bool, _&&_}
+use Prim.Native.Nat.{ℕ, zero, suc, _+_, _-_, _*_, _/_, _%_}
+use mathlib.Core.Bool.{Bool, false, _||_}
 use mathlib.Core.List.{List, _++_}
-use lib.Dec.{eqb, leb, ltb}
+use lib.Dec.{eqb}
 use lib.ListN.{getD, drop}
 use Rattle.settings.specs.Valid.{vectorBytes, arrayBytes}
 use Rattle.settings.specs.declared.Settings.{Settings}
@@ -44,16 +44,21 @@ unfoldable pub firstVector : Settings → Fields → ℕ
 unfolding selected
 firstVector s f = selected s f - selected s f % perSource (f .family)
 
--- whether the word writes vector v of ZA: v is first + r·stride + i, with i below k. r is v / stride
+-- whether some number below n passes
+unfoldable pub someBelow : ℕ → (ℕ → Bool) → Bool
+someBelow zero test = false
+someBelow (suc n) test = test n || someBelow n test
+
+-- whether the word writes vector v of ZA: for some r below group and i below k, v is first + r·stride + i
 unfoldable pub writesVector : Settings → Fields → ℕ → Bool
-unfolding stride firstVector
-writesVector s f v = leb (firstVector s f) (v % stride s f) && ltb (v % stride s f) (firstVector s f + perSource (f .family))
+unfolding stride firstVector someBelow
+writesVector s f v = someBelow (f .group) (λ r. someBelow (perSource (f .family)) (λ i. eqb v (firstVector s f + r * stride s f + i)))
 
 -- vector first + r·stride + i after the step, of Z registers n+r and m+r, where `old` is what it had
 unfoldable pub newVector : Settings → Fields → List ℕ → ℕ → ℕ → List ℕ → List ℕ
 newVector s f z r i old = newBytes (recipeOf (f .family) f i) (arrayBytes s) old (register s z (f .first + r)) (register s z (f .second + r))
 
--- ZA after the step: each vector that the word writes is new, and every other as it was
+-- ZA after the step: each vector v that the word writes is new, with v / stride for r and v mod stride − first for i, and every other as it was
 unfoldable pub zaAfter : Settings → Fields → List ℕ → List ℕ → List ℕ
 unfolding stride firstVector writesVector newVector
 zaAfter s f z za =

@@ -10,13 +10,13 @@ ghost use Rattle.bits.specs.Replace.{Replaced};
 ghost use Rattle.recipes.specs.Recipe.{perSource};
 ghost use Rattle.machine.specs.Modes.{permits};
 ghost use Rattle.machine.specs.Step.{zaAfter};
-ghost use Rattle.machine.specs.Loop.{made, RegisterRenewed, Grid, place, fresh, IntoV, Sources, Places, Ready};
-ghost use Rattle.machine.specs.Execute.{executedSays, writtenBits, stepped, Stepped, executeFields, rightLengths, ExecutePromise};
+ghost use Rattle.machine.specs.Loop.{made, RegisterRenewed, Grid, place, becomes, IntoV, Sources, Places, Ready};
+ghost use Rattle.machine.specs.Execute.{executedSays, written, stepped, Stepped, rightLengths, ExecutePromise};
 ghost use Rattle.machine.specs.Run.{reportOf, threeOf};
 ghost use Rattle.machine.specs.declared.Executed.the-variants.{Done};
 ghost use Rattle.words.specs.declared.Family.the-variants.{Saturating};
 ghost use Rattle.words.specs.Ranges.{Ranges};
-ghost use Rattle.words.specs.Says.{As, describe};
+ghost use Rattle.words.specs.Decode.{decodePaper};
 ghost use Rattle.words.specs.Kinds.{fieldsAs};
 use settings::Features;
 use settings::Modes;
@@ -147,7 +147,7 @@ fn step_vectors(
 ) -> u32
     requires { ⌜ Places fields w (now z) (now za) ⌝ }
     requires { ⌜ Grid w (fields .group) stride k first × (k ≡ perSource (fields .family)) ⌝ }
-    ensures { λ t. ⌜ (now (za .exit) ≡ replaced (place first stride k) (fresh fields w first stride k (now (z .entry)) (now (za .entry))) w (fields .group * k) (now (za .entry))) × (t ≡ toggled (now (za .entry)) (now (za .exit))) ⌝ }
+    ensures { λ t. ⌜ (now (za .exit) ≡ replaced (place first stride k) (becomes fields w first stride k (now (z .entry)) (now (za .entry))) w (fields .group * k) (now (za .entry))) × (t ≡ toggled (now (za .entry)) (now (za .exit))) ⌝ }
 {
     let count = fields.group as usize * k;
     let mut t: u32 = 0;
@@ -197,10 +197,13 @@ pub fn right_lengths(settings: Settings, z: usize, za: usize) -> bool
     (z == 32 * register) & (za == vector * vector)
 }
 
-fn written_bits(vl: u32, group: u32, family: Family) -> u32
-    requires { ⌜ (vl ≤ 2048) × (group ≤ 32) ⌝ }
-    ensures { λ r. ⌜ r ≡ writtenBits vl group family ⌝ }
+fn written_bits(settings: Settings, fields: Fields) -> u32
+    requires { ⌜ (settings .vl ≤ 2048) × (fields .group ≤ 32) ⌝ }
+    ensures { λ r. ⌜ r ≡ written settings fields ⌝ }
 {
+    let vl = settings.vl;
+    let group = fields.group;
+    let family = fields.family;
     match family {
         Family::ByElement => 128,
         Family::Vector => 128,
@@ -245,11 +248,9 @@ fn step(settings: Settings, fields: Fields, z: &mut [u8], za: &mut [u8]) -> Coun
     requires { ⌜ Ranges fields ⌝ }
     ensures { λ c. ⌜ executedSays (Done c) (now (z .exit)) (now (za .exit)) ≡ stepped settings fields (now (z .entry)) (now (za .entry)) ⌝ }
 {
-    let bytes = settings.vector_bytes();
-    let w = bytes as usize;
-    let family = fields.family;
+    let w = settings.vector_bytes() as usize;
     let toggled = step_files(settings, fields, w, z, za);
-    let written = written_bits(8 * bytes, fields.group, family);
+    let written = written_bits(settings, fields);
     Counts {
         toggled: toggled,
         written: written,
@@ -259,8 +260,8 @@ fn step(settings: Settings, fields: Fields, z: &mut [u8], za: &mut [u8]) -> Coun
 // 4, or the step. The fields are read last: a word that is refused needs none.
 fn execute_kind(settings: Settings, kind: Kind, word: u32, z: &mut [u8], za: &mut [u8]) -> Executed
     requires { ⌜ Ready settings (now z) (now za) ⌝ }
-    requires { ⌜ describe word ≡ As (fieldsAs kind word) ⌝ }
-    ensures { λ r. ⌜ executedSays r (now (z .exit)) (now (za .exit)) ≡ executeFields settings (fieldsAs kind word) (now (z .entry)) (now (za .entry)) ⌝ }
+    requires { ⌜ decodePaper settings word ≡ (0, fieldsAs kind word) ⌝ }
+    ensures { λ r. ⌜ ExecutePromise settings word (now (z .entry)) (now (za .entry)) r (now (z .exit)) (now (za .exit)) ⌝ }
 {
     let features = settings.features;
     let modes = settings.modes;

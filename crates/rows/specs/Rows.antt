@@ -21,8 +21,8 @@ use Rattle.bits.specs.Bits.{overBits, overBytes, toggled}
 use Rattle.rate.specs.Rate.{percentOf}
 use Rattle.recipes.specs.Recipe.{Recipe, recipeOf}
 use Rattle.recipes.specs.Element.{newElement, newBytes}
-use Rattle.machine.specs.Step.{newRegister, zAfter, stride, selected, firstVector, writesVector, newVector, zaAfter}
-use Rattle.machine.specs.Execute.{Outcome, stepped, executeFields, executePaper}
+use Rattle.machine.specs.Step.{newRegister, zAfter, stride, selected, firstVector, someBelow, writesVector, newVector, zaAfter}
+use Rattle.machine.specs.Execute.{Outcome, stepped, executePaper}
 
 -- what a row gives
 pub data Given : Type 0 where
@@ -131,5 +131,5 @@ table =
 pub rows-hold : map (λ (l : Line). answerOf (l .given)) table ≡ map (λ (l : Line). l .answer) table
 unfolding answerOf decodePaper decodeEnabled describe enables validSettings vectorBytes arrayBytes
     elementAt lowBytes vector vectorAt laid renewed SInt Int low product accumulate laneStep clamp SignedSat satStep step overBits overBytes
-    newElement newBytes newRegister zAfter stride selected firstVector writesVector newVector zaAfter stepped executeFields executePaper
+    newElement newBytes newRegister zAfter stride selected firstVector someBelow writesVector newVector zaAfter stepped executePaper
 rows-hold = refl

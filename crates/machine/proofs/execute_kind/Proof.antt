@@ -7,10 +7,10 @@ use Rattle.words.specs.Ranges.{Ranges}
 use Rattle.words.specs.declared.Family.{Family}
 use Rattle.words.specs.declared.Fields.{Fields}
 use Rattle.words.proofs.ByKind.{family-as}
-use Rattle.words.proofs.Ranges.{in-range}
+use Rattle.words.proofs.Answers.{decodes-exactly}
 use Rattle.machine.specs.Modes.{permits}
 use Rattle.machine.specs.Execute.{stepped}
-use Rattle.machine.proofs.Executing.{not-permitted, is-permitted}
+use Rattle.machine.proofs.Executing.{word-ranges, not-permitted, is-permitted}
 use Rattle.machine.proofs.execute_kind.Statement.{statement}
 use Rattle.machine.proofs.execute_kind.Tie as tie
 
@@ -33,17 +33,18 @@ permitted-requires c κs = search needs
 
 returns : tie.Need-returns
 returns c =
-    let a = entry (c .before) .args in
-    not-permitted (a .settings) (a .z .now) (a .za .now) (fieldsAs (a .kind) (a .word)) (asked (c .before) ∙ not-true _ (c .if1 .taken))
+    let s = entry (c .before) in
+    let a = s .args in
+    not-permitted (a .settings) (a .z .now) (a .za .now) (a .word) _ (s .pre .0) (s .pre .1) (asked (c .before) ∙ not-true _ (c .if1 .taken))
 
 fields-of-requires : tie.Need-fields-of-requires
-fields-of-requires c κs = search needs
+fields-of-requires c κs = let s = entry (c .before) in decodes-exactly (s .args .settings) (s .args .word) _ .0 (s .pre .1) .says
 
 step-requires : tie.Need-step-requires
 step-requires c κs =
     let f = c .before .before in
     let s = entry (f .before .before) in
-    (s .pre .0, subst Ranges (sym (f .fields-of .ensures)) (in-range (s .args .word) _ (s .pre .1)))
+    (s .pre .0, subst Ranges (sym (f .fields-of .ensures)) (word-ranges (s .args .settings) (s .args .word) _ (s .pre .1)))
 
 same-length : tie.Need-same-length
 same-length c = search needs
@@ -56,10 +57,11 @@ returns-2 c =
     let t = c .before .before .before .before in
     let f = t .before .before .before in
     let i = f .before in
-    let a = entry (i .before) .args in
+    let s = entry (i .before) in
+    let a = s .args in
     t .step .ensures
     ∙ ap (λ (g : Fields). stepped (a .settings) g (a .z .now) (a .za .now)) (f .fields-of .ensures)
-    ∙ is-permitted (a .settings) (a .z .now) (a .za .now) (fieldsAs (a .kind) (a .word)) (asked (i .before) ∙ not-false _ (i .if1 .left))
+    ∙ is-permitted (a .settings) (a .z .now) (a .za .now) (a .word) _ (s .pre .0) (s .pre .1) (asked (i .before) ∙ not-false _ (i .if1 .left))
 
 pub execute-kind-spec : {M : Type 1} → statement M
 execute-kind-spec =

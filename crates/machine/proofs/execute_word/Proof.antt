@@ -5,8 +5,8 @@ use mathlib.Core.Path.{_≡_, sym, ap, _∙_}
 use borrow.Author.Needs.{needs}
 use Rattle.words.specs.Kinds.{saysAs, enablesSaid}
 use Rattle.words.specs.declared.Fields.{Fields}
-use Rattle.words.proofs.ByKind.{kind-refused, kind-enabled, kind-says}
-use Rattle.machine.proofs.Executing.{not-decoded, is-decoded}
+use Rattle.words.proofs.ByKind.{kind-refused, kind-enabled}
+use Rattle.machine.proofs.Executing.{decodes-to, not-decoded}
 use Rattle.machine.proofs.execute_word.Statement.{statement}
 use Rattle.machine.proofs.execute_word.Tie as tie
 
@@ -28,7 +28,8 @@ execute-kind-requires : tie.Need-execute-kind-requires
 execute-kind-requires c κs =
     let i = c .before .before in
     let k = i .before .before in
-    (entry k .pre, kind-says _ _ (k .kind-of .result) (k .kind-of .ensures) (enabled (i .before) ∙ i .if1 .taken))
+    let s = entry k in
+    (s .pre, decodes-to (s .args .settings) (s .args .word) _ (s .pre .valid) (kind-enabled _ _ (k .kind-of .result) (k .kind-of .ensures) (enabled (i .before) ∙ i .if1 .taken)))
 
 same-length : tie.Need-same-length
 same-length c = search needs
@@ -37,22 +38,15 @@ same-length-2 : tie.Need-same-length-2
 same-length-2 c = search needs
 
 returns : tie.Need-returns
-returns c =
-    let x = c .before .before .before .before in
-    let i = x .before .before .before in
-    let k = i .before .before in
-    let s = entry k in
-    x .execute-kind .ensures
-    ∙ is-decoded (s .args .settings) (s .args .z .now) (s .args .za .now) (s .args .word) _ (s .pre)
-    (kind-enabled _ _ (k .kind-of .result) (k .kind-of .ensures) (enabled (i .before) ∙ i .if1 .taken))
+returns c = c .before .before .before .before .execute-kind .ensures
 
 returns-2 : tie.Need-returns-2
 returns-2 c =
     let k = c .before .before in
     let s = entry k in
-    not-decoded (s .args .settings) (s .args .z .now) (s .args .za .now) (s .args .word) 3 (s .pre)
-    (ap (λ (p : ℕ × Fields). p .0) (kind-refused _ _ (k .kind-of .result) (k .kind-of .ensures) (enabled (c .before) ∙ c .if1 .left)))
-    (λ e. omega arith)
+    let d = decodes-to (s .args .settings) (s .args .word) _ (s .pre .valid) (kind-refused _ _ (k .kind-of .result) (k .kind-of .ensures) (enabled (c .before) ∙ c .if1 .left)) in
+    not-decoded (s .args .settings) (s .args .z .now) (s .args .za .now) (s .args .word) (s .pre)
+    (λ e. let three : _≡_ {A = ℕ} 3 0 = sym (ap (λ (p : ℕ × Fields). p .0) d) ∙ e in omega arith)
 
 pub execute-word-spec : {M : Type 1} → statement M
 execute-word-spec =

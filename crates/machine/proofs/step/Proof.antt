@@ -17,17 +17,11 @@ step-files-requires c κs =
     let s = n .before .before .before in
     (s .pre .0, (s .pre .1, n .vector-bytes .ensures))
 
-mul-written-bits : tie.Need-mul-written-bits
-mul-written-bits c =
-    let n = c .before .before .before .before .before .before .before in
-    let s = n .before .before .before in
-    omega (arith, bits-small (s .args .settings) (s .args .z .now) (s .args .za .now) (s .pre .0) _ (n .vector-bytes .ensures))
-
 written-bits-requires : tie.Need-written-bits-requires
 written-bits-requires c κs =
     let n = c .before .before .before .before .before .before .before in
     let s = n .before .before .before in
-    (bits-small (s .args .settings) (s .args .z .now) (s .args .za .now) (s .pre .0) _ (n .vector-bytes .ensures), omega (arith, s .pre .1 .first))
+    (bits-small (s .args .settings) (s .args .z .now) (s .args .za .now) (s .pre .0), omega (arith, s .pre .1 .first))
 
 same-length : tie.Need-same-length
 same-length c = search needs
@@ -40,7 +34,7 @@ returns c =
     let p = c .before .before .before .before .before in
     let n = p .before .before .before in
     let s = n .before .before .before in
-    outcome-is (s .args .settings) (s .args .fields) _ _ _ (s .args .z .now) (s .args .za .now) _ _ (p .step-files .ensures) (n .vector-bytes .ensures) (c .written-bits .ensures)
+    outcome-is (s .args .settings) (s .args .fields) _ _ (s .args .z .now) (s .args .za .now) _ _ (p .step-files .ensures) (c .written-bits .ensures)
 
 pub step-spec : {M : Type 1} → statement M
 step-spec =
@@ -49,7 +43,6 @@ step-spec =
     vector-bytes-requires
     cast-w
     step-files-requires
-    mul-written-bits
     written-bits-requires
     same-length
     same-length-2

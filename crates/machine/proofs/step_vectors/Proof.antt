@@ -7,7 +7,7 @@ use borrow.Author.Needs.{needs}
 use Rattle.elements.specs.Files.{replaced}
 use Rattle.bits.specs.Bits.{toggled}
 use Rattle.bits.proofs.Bits.{toggled-same}
-use Rattle.machine.specs.Loop.{place, fresh}
+use Rattle.machine.specs.Loop.{place, becomes}
 use Rattle.machine.proofs.Array.{two-or-four-vectors}
 use Rattle.machine.proofs.Vectors.{few-vectors, row-lt, Turned, turn, again, count-next}
 use Rattle.machine.proofs.step_vectors.Statement.{statement}
@@ -15,7 +15,7 @@ use Rattle.machine.proofs.step_vectors.Tie as tie
 
 abbrev Inv-loop : tie.InvT-loop
 Inv-loop fields w first stride k z za₀ count t₀ q₀ za t q =
-    (q ≤ count) × (za ≡ replaced (place first stride k) (fresh fields w first stride k z za₀) w q za₀) × (t ≡ toggled za₀ za) × (t ≤ q * (8 * w)) × (length za ≡ length za₀)
+    (q ≤ count) × (za ≡ replaced (place first stride k) (becomes fields w first stride k z za₀) w q za₀) × (t ≡ toggled za₀ za) × (t ≤ q * (8 * w)) × (length za ≡ length za₀)
 
 abbrev μ-loop : tie.MeasureT-loop
 μ-loop fields w first stride k z za₀ count t₀ q₀ za t q = count - q
@@ -121,7 +121,7 @@ returns c =
     let s = c .before .before .before .before .before in
     let l = c .before .loop in
     let e : l .q ≡ s .args .fields .group * s .args .k = omega (arith, l .inv .0, c .loop-test .left) in
-    (l .inv .1 ∙ ap (λ (n : ℕ). replaced (place (s .args .first) (s .args .stride) (s .args .k)) (fresh (s .args .fields) (s .args .w) (s .args .first) (s .args .stride) (s .args .k) (s .args .z .now) (s .args .za .now)) (s .args .w) n (s .args .za .now)) e, l .inv .2)
+    (l .inv .1 ∙ ap (λ (n : ℕ). replaced (place (s .args .first) (s .args .stride) (s .args .k)) (becomes (s .args .fields) (s .args .w) (s .args .first) (s .args .stride) (s .args .k) (s .args .z .now) (s .args .za .now)) (s .args .w) n (s .args .za .now)) e, l .inv .2)
 
 pub step-vectors-spec : {M : Type 1} → statement M
 step-vectors-spec =

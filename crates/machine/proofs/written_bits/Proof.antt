@@ -7,7 +7,7 @@ use Rattle.machine.proofs.written_bits.Statement.{statement}
 use Rattle.machine.proofs.written_bits.Tie as tie
 
 -- whatever the branch, the product fits
-small : (s : tie.Start) → s .args .vl * s .args .group ≤ 65536
+small : (s : tie.Start) → s .args .settings .vl * s .args .fields .group ≤ 65536
 small s = mul-le-mul (s .pre .0) (s .pre .1)
 
 enum-told : tie.Need-enum-told
