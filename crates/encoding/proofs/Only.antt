@@ -52,58 +52,58 @@ module _ (w : ℕ) (lt : w < 2 ^ 32) where
   -- ss 01, and else ss 10
   a-undone : Undone entryA w
   a-undone m n =
-      let s = value rowA "s" w in
-      let unsigned = number-bit (value rowA "U" w) (omega arith) in
-      let subtract = number-bit (value rowA "S" w) (omega arith) in
-      cond-holds (λ (g : Fields). candidateOf g ≡ w) (eqb s 0b01) (fieldsA16 w) (fieldsA32 w)
-      (λ e. one-row rowA (valuesA16 (fieldsA16 w)) refl m
+      let s = value rowA w "s" in
+      let unsigned = number-bit (value rowA w "U") (omega arith) in
+      let subtract = number-bit (value rowA w "S") (omega arith) in
+      cond-holds (λ (g : Fields). candidateOf g ≡ w) (eqb s 0b01) (fieldsA16 (value rowA w)) (fieldsA32 (value rowA w))
+      (λ e. one-row rowA (valuesA16 (fieldsA16 (value rowA w))) refl m
       (let size-01 = eqb-true s 0b01 e in
-      let index = join3 (value rowA "H" w) (value rowA "L" w) (value rowA "M" w) (omega arith) (omega arith) (omega arith) in
+      let index = join3 (value rowA w "H") (value rowA w "L") (value rowA w "M") (omega arith) (omega arith) (omega arith) in
       omega arith))
-      (λ e. one-row rowA (valuesA32 (fieldsA32 w)) refl m
+      (λ e. one-row rowA (valuesA32 (fieldsA32 (value rowA w))) refl m
       (let size-10 = either (eqb s 0b01) (eqb s 0b10) (not-false _ n) (λ y. absurd (never-both _ y e)) (λ y. eqb-true s 0b10 y) in
-      let index = join2 (value rowA "H" w) (value rowA "L" w) (omega arith) (omega arith) in
-      let second = join-second (value rowA "M" w) (value rowA "m" w) (omega arith) (omega arith) in
+      let index = join2 (value rowA w "H") (value rowA w "L") (omega arith) (omega arith) in
+      let second = join-second (value rowA w "M") (value rowA w "m") (omega arith) (omega arith) in
       omega arith))
 
   b-undone : Undone entryB w
   b-undone m n =
-      let unsigned = number-bit (value rowB "U" w) (omega arith) in
-      let subtract = number-bit (value rowB "S" w) (omega arith) in
-      let lane = lane-b (value rowB "s" w) (omega arith) n in
-      one-row rowB (valuesB (fieldsB w)) refl m (omega arith)
+      let unsigned = number-bit (value rowB w "U") (omega arith) in
+      let subtract = number-bit (value rowB w "S") (omega arith) in
+      let lane = lane-b (value rowB w "s") (omega arith) n in
+      one-row rowB (valuesB (fieldsB (value rowB w))) refl m (omega arith)
 
-  c16-undone : Undone (entry rowC16 (fieldsC rowC16 16)) w
+  c16-undone : Undone (entry rowC16 (fieldsC 16)) w
   c16-undone m _ =
-      let subtract = number-bit (value rowC16 "S" w) (omega arith) in
-      one-row rowC16 (valuesC16 (fieldsC rowC16 16 w)) refl m (omega arith)
+      let subtract = number-bit (value rowC16 w "S") (omega arith) in
+      one-row rowC16 (valuesC16 (fieldsC 16 (value rowC16 w))) refl m (omega arith)
 
-  c32-undone : Undone (entry rowC32 (fieldsC rowC32 32)) w
+  c32-undone : Undone (entry rowC32 (fieldsC 32)) w
   c32-undone m _ =
-      let subtract = number-bit (value rowC32 "S" w) (omega arith) in
-      one-row rowC32 (valuesC32 (fieldsC rowC32 32 w)) refl m (omega arith)
+      let subtract = number-bit (value rowC32 w "S") (omega arith) in
+      one-row rowC32 (valuesC32 (fieldsC 32 (value rowC32 w))) refl m (omega arith)
 
   -- U and S stand at the same places in the four rows of D and E, and z in the two of D
-  unsigned-za : bitOf (isOne (value rowD2 "U" w)) ≡ value rowD2 "U" w
+  unsigned-za : bitOf (isOne (value rowD2 w "U")) ≡ value rowD2 w "U"
   unsigned-za = number-bit _ (omega arith)
 
-  subtract-za : bitOf (isOne (value rowD2 "S" w)) ≡ value rowD2 "S" w
+  subtract-za : bitOf (isOne (value rowD2 w "S")) ≡ value rowD2 w "S"
   subtract-za = number-bit _ (omega arith)
 
-  lane-za : (8 + 8 * value rowD2 "z" w) / 16 % 2 ≡ value rowD2 "z" w
+  lane-za : (8 + 8 * value rowD2 w "z") / 16 % 2 ≡ value rowD2 w "z"
   lane-za = lane-d _ (omega arith)
 
-  d2-undone : Undone (entry rowD2 (fieldsD rowD2 2)) w
-  d2-undone m _ = one-row rowD2 (valuesD (fieldsD rowD2 2 w) 2 16) refl m (omega (arith, unsigned-za, subtract-za, lane-za))
+  d2-undone : Undone (entry rowD2 (fieldsD 2)) w
+  d2-undone m _ = one-row rowD2 (valuesD (fieldsD 2 (value rowD2 w)) 2 16) refl m (omega (arith, unsigned-za, subtract-za, lane-za))
 
-  d4-undone : Undone (entry rowD4 (fieldsD rowD4 4)) w
-  d4-undone m _ = one-row rowD4 (valuesD (fieldsD rowD4 4 w) 4 8) refl m (omega (arith, unsigned-za, subtract-za, lane-za))
+  d4-undone : Undone (entry rowD4 (fieldsD 4)) w
+  d4-undone m _ = one-row rowD4 (valuesD (fieldsD 4 (value rowD4 w)) 4 8) refl m (omega (arith, unsigned-za, subtract-za, lane-za))
 
-  e2-undone : Undone (entry rowE2 (fieldsE rowE2 2)) w
-  e2-undone m _ = one-row rowE2 (valuesE (fieldsE rowE2 2 w) 2 16) refl m (omega (arith, unsigned-za, subtract-za))
+  e2-undone : Undone (entry rowE2 (fieldsE 2)) w
+  e2-undone m _ = one-row rowE2 (valuesE (fieldsE 2 (value rowE2 w)) 2 16) refl m (omega (arith, unsigned-za, subtract-za))
 
-  e4-undone : Undone (entry rowE4 (fieldsE rowE4 4)) w
-  e4-undone m _ = one-row rowE4 (valuesE (fieldsE rowE4 4 w) 4 8) refl m (omega (arith, unsigned-za, subtract-za))
+  e4-undone : Undone (entry rowE4 (fieldsE 4)) w
+  e4-undone m _ = one-row rowE4 (valuesE (fieldsE 4 (value rowE4 w)) 4 8) refl m (omega (arith, unsigned-za, subtract-za))
 
 -- a word with the fields f is the candidate of f
 pub only : (f : Fields) (w : ℕ) → w < 2 ^ 32 → describe w ≡ As f → candidateOf f ≡ w

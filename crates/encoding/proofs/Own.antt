@@ -12,7 +12,7 @@ use Rattle.laws.proofs.Tests.{one-of-three, by-three, failed, never-both, cond-
 use Rattle.layouts.specs.Layout.{Layout, size, matches, value, parts, build}
 use Rattle.layouts.proofs.Inverse.{Fit, parts-build}
 use Rattle.words.specs.Rows.{rowA, rowB, rowC16, rowC32, rowD2, rowD4, rowE2, rowE4}
-use Rattle.words.specs.Says.{Row, entry, entryA, entryB, table, describe, fieldsA16, fieldsA32, vector, fieldsC, fieldsD, fieldsE}
+use Rattle.words.specs.Says.{Row, entry, entryA, entryB, table, describe, fieldsA16, fieldsA32, byVector, fieldsC, fieldsD, fieldsE}
 use Rattle.words.specs.Numbers.{bitOf}
 use Rattle.words.specs.declared.Family.{Family}
 use Rattle.words.specs.declared.Family.the-variants.{ByElement, Vector, Saturating, LongLong, Long}
@@ -32,10 +32,10 @@ built l vs w fit e =
     subst (λ (x : ℕ). (parts l x ≡ vs) × (matches l x ≡ true)) z (parts-build l vs 0 fit)
 
 -- so it says what its row says, where its size is not reserved
-row-says : (r : Row) → List·Memᴰ r table → (vs : List ℕ) → Fit (r .layout) vs → (f : Fields) (w : ℕ) → r .reserved w ≡ false → w ≡ build (r .layout) vs
-    → sameOf f (r .fields w) ≡ saysOnly f (describe w)
+row-says : (r : Row) → List·Memᴰ r table → (vs : List ℕ) → Fit (r .layout) vs → (f : Fields) (w : ℕ) → r .reserved (value (r .layout) w) ≡ false → w ≡ build (r .layout) vs
+    → sameOf f (r .fields (value (r .layout) w)) ≡ saysOnly f (describe w)
 row-says r listed vs fit f w o e =
-    sym (ap (saysOnly f) (described-exactly w (r .fields w) .1
+    sym (ap (saysOnly f) (described-exactly w (r .fields (value (r .layout) w)) .1
     (record { row = r; listed = listed; matching = built (r .layout) vs w fit e .1; open-size = o; fields = refl })))
 
 -- ---- the rows of the candidate
@@ -46,11 +46,11 @@ laneB lane = eqb lane 8 || eqb lane 16 || eqb lane 32
 
 -- whether the fields are those that the candidate's row reads in the word
 abbrev pub ownBy : Family → Fields → ℕ → Bool
-ownBy ByElement f w = cond (eqb (f .lane) 16) (sameOf f (fieldsA16 w)) (sameOf f (fieldsA32 w))
-ownBy Vector f w = cond (laneB (f .lane)) (sameOf f (vector w (f .lane))) false
-ownBy Saturating f w = cond (eqb (f .lane) 16) (sameOf f (fieldsC rowC16 16 w)) (sameOf f (fieldsC rowC32 32 w))
-ownBy LongLong f w = cond (eqb (f .group) 2) (sameOf f (fieldsD rowD2 2 w)) (sameOf f (fieldsD rowD4 4 w))
-ownBy Long f w = cond (eqb (f .group) 2) (sameOf f (fieldsE rowE2 2 w)) (sameOf f (fieldsE rowE4 4 w))
+ownBy ByElement f w = cond (eqb (f .lane) 16) (sameOf f (fieldsA16 (value rowA w))) (sameOf f (fieldsA32 (value rowA w)))
+ownBy Vector f w = cond (laneB (f .lane)) (sameOf f (byVector (value rowB w) (f .lane))) false
+ownBy Saturating f w = cond (eqb (f .lane) 16) (sameOf f (fieldsC 16 (value rowC16 w))) (sameOf f (fieldsC 32 (value rowC32 w)))
+ownBy LongLong f w = cond (eqb (f .group) 2) (sameOf f (fieldsD 2 (value rowD2 w))) (sameOf f (fieldsD 4 (value rowD4 w)))
+ownBy Long f w = cond (eqb (f .group) 2) (sameOf f (fieldsE 2 (value rowE2 w))) (sameOf f (fieldsE 4 (value rowE4 w)))
 
 -- each value is within its field
 module _ (f : Fields) where
@@ -93,10 +93,10 @@ third vs = getD vs 2 0
 
 -- A: the candidate's ss says which fields the row reads
 a : (f : Fields) (w : ℕ) (vs : List ℕ) → Fit rowA vs → not (eqb (third vs) 0b01 || eqb (third vs) 0b10) ≡ false → w ≡ build rowA vs
-    → sameOf f (cond (eqb (third vs) 0b01) (fieldsA16 w) (fieldsA32 w)) ≡ saysOnly f (describe w)
+    → sameOf f (cond (eqb (third vs) 0b01) (fieldsA16 (value rowA w)) (fieldsA32 (value rowA w))) ≡ saysOnly f (describe w)
 a f w vs fit o e =
-    let ss : value rowA "s" w ≡ third vs = ap third (built rowA vs w fit e .0) in
-    ap (λ (x : ℕ). sameOf f (cond (eqb x 0b01) (fieldsA16 w) (fieldsA32 w))) (sym ss)
+    let ss : value rowA w "s" ≡ third vs = ap third (built rowA vs w fit e .0) in
+    ap (λ (x : ℕ). sameOf f (cond (eqb x 0b01) (fieldsA16 (value rowA w)) (fieldsA32 (value rowA w)))) (sym ss)
     ∙ row-says entryA (here refl) vs fit f w (ap (λ (x : ℕ). not (eqb x 0b01 || eqb x 0b10)) ss ∙ o) e
 
 -- B: the ss of each of its lanes is not reserved, and gives the lane back
@@ -104,11 +104,11 @@ lane-back : (lane : ℕ) → laneB lane ≡ true → (eqb (lane / 16 % 4) 0b11 �
 lane-back lane l =
     by-three lane 8 16 32 l (λ (n : ℕ). (eqb (n / 16 % 4) 0b11 ≡ false) × (8 * 2 ^ (n / 16 % 4) ≡ n)) (refl, refl) (refl, refl) (refl, refl)
 
-b : (f : Fields) (w : ℕ) → laneB (f .lane) ≡ true → w ≡ build rowB (valuesB f) → sameOf f (vector w (f .lane)) ≡ saysOnly f (describe w)
+b : (f : Fields) (w : ℕ) → laneB (f .lane) ≡ true → w ≡ build rowB (valuesB f) → sameOf f (byVector (value rowB w) (f .lane)) ≡ saysOnly f (describe w)
 b f w l e =
-    let ss : value rowB "s" w ≡ f .lane / 16 % 4 = ap third (built rowB (valuesB f) w (fit-b f) e .0) in
+    let ss : value rowB w "s" ≡ f .lane / 16 % 4 = ap third (built rowB (valuesB f) w (fit-b f) e .0) in
     let back = lane-back (f .lane) l in
-    ap (λ (lane : ℕ). sameOf f (vector w lane)) (sym (ap (λ (x : ℕ). 8 * 2 ^ x) ss ∙ back .1))
+    ap (λ (lane : ℕ). sameOf f (byVector (value rowB w) lane)) (sym (ap (λ (x : ℕ). 8 * 2 ^ x) ss ∙ back .1))
     ∙ row-says entryB (next (here refl)) (valuesB f) (fit-b f) f w (ap (λ (x : ℕ). eqb x 0b11) ss ∙ back .0) e
 
 lane-known : (lane : ℕ) → (lane ≡ 8) ⊎ ((lane ≡ 16) ⊎ (lane ≡ 32)) → laneB lane ≡ true
@@ -128,16 +128,16 @@ own-by ByElement f w = one-of (eqb (f .lane) 16) w _ _ _ _ _ (a f w (valuesA16 f
 own-by Vector f w = λ e. cond-holds (λ (t : Bool). t ≡ saysOnly f (describe w)) (laneB (f .lane)) _ _ (λ l. b f w l e) (no-lane f w)
 own-by Saturating f w =
     one-of (eqb (f .lane) 16) w _ _ _ _ _
-    (row-says (entry rowC16 (fieldsC rowC16 16)) (next (next (here refl))) (valuesC16 f) (fit-c16 f) f w refl)
-    (row-says (entry rowC32 (fieldsC rowC32 32)) (next (next (next (here refl)))) (valuesC32 f) (fit-c32 f) f w refl)
+    (row-says (entry rowC16 (fieldsC 16)) (next (next (here refl))) (valuesC16 f) (fit-c16 f) f w refl)
+    (row-says (entry rowC32 (fieldsC 32)) (next (next (next (here refl)))) (valuesC32 f) (fit-c32 f) f w refl)
 own-by LongLong f w =
     one-of (eqb (f .group) 2) w _ _ _ _ _
-    (row-says (entry rowD2 (fieldsD rowD2 2)) (next (next (next (next (here refl))))) (valuesD f 2 16) (fit-d2 f) f w refl)
-    (row-says (entry rowD4 (fieldsD rowD4 4)) (next (next (next (next (next (here refl)))))) (valuesD f 4 8) (fit-d4 f) f w refl)
+    (row-says (entry rowD2 (fieldsD 2)) (next (next (next (next (here refl))))) (valuesD f 2 16) (fit-d2 f) f w refl)
+    (row-says (entry rowD4 (fieldsD 4)) (next (next (next (next (next (here refl)))))) (valuesD f 4 8) (fit-d4 f) f w refl)
 own-by Long f w =
     one-of (eqb (f .group) 2) w _ _ _ _ _
-    (row-says (entry rowE2 (fieldsE rowE2 2)) (next (next (next (next (next (next (here refl))))))) (valuesE f 2 16) (fit-e2 f) f w refl)
-    (row-says (entry rowE4 (fieldsE rowE4 4)) (next (next (next (next (next (next (next (here refl)))))))) (valuesE f 4 8) (fit-e4 f) f w refl)
+    (row-says (entry rowE2 (fieldsE 2)) (next (next (next (next (next (next (here refl))))))) (valuesE f 2 16) (fit-e2 f) f w refl)
+    (row-says (entry rowE4 (fieldsE 4)) (next (next (next (next (next (next (next (here refl)))))))) (valuesE f 4 8) (fit-e4 f) f w refl)
 
 -- the answer of the candidate's own row is the answer of the whole table
 pub own : (family : Family) (f : Fields) (w : ℕ) (r : Bool) → f .family ≡ family → w ≡ candidateOf f → r ≡ ownBy family f w → r ≡ saysOnly f (describe w)

@@ -11,7 +11,6 @@ use lib.Pow.{shr-shr, shr-mod, field as shr-of-mod, mod-mod-pow}
 use borrow.Author.Tests.{eqb-true, eqb-false, leb-true, ltb-true, not-true}
 use Rattle.laws.proofs.Tests.{both, either, never-both, failed, cond-holds}
 use Rattle.layouts.specs.Layout.{Layout, bits, field, size, part, matches}
-use Rattle.layouts.proofs.Inverse.{part-is, matched}
 
 -- what the layout fixes at bit p: 0 or 1, or 2 where it fixes nothing
 abbrev pub fixedAt : Layout → ℕ → ℕ
@@ -33,8 +32,8 @@ bit-of-part w s k j h =
 fixed-bit : (l : Layout) (w p : ℕ) → matches l w ≡ true → fixedAt l p < 2 → w / 2 ^ p % 2 ≡ fixedAt l p
 fixed-bit [] w p h = λ (f : 2 < 2). absurd (omega arith)
 fixed-bit (bits k x ∷ l) w p h =
-    let r = matched (eqb (part w (size l) k) x) l w h in
-    let e : w / 2 ^ size l % 2 ^ k ≡ x = sym (part-is w (size l) k) ∙ eqb-true _ _ (r .0) in
+    let r = both (matches l w) (eqb (part w (size l) k) x) h in
+    let e : part w (size l) k ≡ x = eqb-true _ _ (r .1) in
     let P : ℕ → Type 0 = λ (n : ℕ). n < 2 → w / 2 ^ p % 2 ≡ n in
     cond-holds P (leb (size l) p) _ _
     (λ (a : leb (size l) p ≡ true). cond-holds P (ltb p (size l + k)) (x / 2 ^ (p - size l) % 2) 2
@@ -44,7 +43,7 @@ fixed-bit (bits k x ∷ l) w p h =
     let q : size l + (p - size l) ≡ p = omega arith in
     sym (ap (λ (n : ℕ). n / 2 ^ (p - size l) % 2) (sym e) ∙ bit-of-part w (size l) k (p - size l) (omega arith) ∙ ap (λ (n : ℕ). w / 2 ^ n % 2) q))
     (λ _ (f : 2 < 2). absurd (omega arith)))
-    (λ _. fixed-bit l w p (r .1))
+    (λ _. fixed-bit l w p (r .0))
 fixed-bit (field k a ∷ l) w p h =
     cond-holds (λ (n : ℕ). n < 2 → w / 2 ^ p % 2 ≡ n) (leb (size l) p) 2 (fixedAt l p) (λ _ (f : 2 < 2). absurd (omega arith)) (λ _. fixed-bit l w p h)
 
@@ -104,5 +103,5 @@ other-top (bits k x ∷ l) w f h n =
     (λ m. n
     (sym (ap (λ (p : ℕ). w / 2 ^ p) q) ∙ sym (shr-shr w (size l) (k - 8))
     ∙ ap (λ (y : ℕ). y / 2 ^ (k - 8))
-    (sym (shr-mod k (size l) i) ∙ sym (part-is w (size l) k) ∙ eqb-true _ _ (matched (eqb (part w (size l) k) x) l w m .0))))
+    (sym (shr-mod k (size l) i) ∙ eqb-true _ _ (both (matches l w) (eqb (part w (size l) k) x) m .1))))
 other-top (field k a ∷ l) w f h n = absurd (never-both false f refl)

@@ -1,59 +1,86 @@
--- What flipping some bits of a word does to what a layout reads off it. Assumes nothing.
-use Prim.Native.Nat.{ℕ, zero, suc, _/_, _%_, _^_}
+-- What flipping the bits of a letter does to what a layout reads off a word: the fixed bits stay, and so does every other letter. Assumes nothing.
+use Prim.Native.Nat.{ℕ, _+_, _*_, _/_, _%_, _^_, _<_}
+use Prim.Native.Char.{Char, code}
+use native.Mathlib.Omega.{arith}
 use mathlib.Core.Path.{_≡_, refl, sym, ap, ap₂, _∙_}
+use mathlib.Core.Logic.{_≢_}
 use mathlib.Core.List.{List, [], _∷_}
-use mathlib.Core.Bool.{Bool, true, _&&_}
+use mathlib.Core.Bool.{Bool, _&&_, cond}
+use lib.Arith.{digits-lt}
 use lib.Dec.{eqb}
 use lib.Bits.{bitXor, xor-shr, xor-mod, xor-zero-r}
-use borrow.Author.Tests.{eqb-true}
-use Rattle.laws.proofs.Tests.{both}
-use Rattle.layouts.specs.Layout.{Layout, bits, field, size, part, matchesToo, matches, parts}
-use Rattle.layouts.proofs.Inverse.{part-is, Agrees}
+use lib.Pow.{pow-pos, pow-add, ones-lt}
+use borrow.Author.Tests.{eqb-true, ne-eqb}
+use Rattle.laws.proofs.Tests.{cond-holds, cond-then}
+use Rattle.layouts.specs.Layout.{Layout, Segment, bits, field, width, size, part, matches, places, join, value, ofLetter, maskOf, flip}
+use Rattle.layouts.proofs.Inverse.{above, head-part}
 
 part-flip : (w m p k : ℕ) → part (bitXor w m) p k ≡ bitXor (part w p k) (part m p k)
-part-flip w m p k =
-    part-is (bitXor w m) p k
-    ∙ ap (λ (x : ℕ). x % 2 ^ k) (xor-shr w m p)
-    ∙ xor-mod (w / 2 ^ p) (m / 2 ^ p) k
-    ∙ ap₂ bitXor (sym (part-is w p k)) (sym (part-is m p k))
+part-flip w m p k = ap (λ (x : ℕ). x % 2 ^ k) (xor-shr w m p) ∙ xor-mod (w / 2 ^ p) (m / 2 ^ p) k
 
 part-kept : (w m p k : ℕ) → part m p k ≡ 0 → part (bitXor w m) p k ≡ part w p k
 part-kept w m p k e = part-flip w m p k ∙ ap (bitXor (part w p k)) e ∙ xor-zero-r (part w p k)
 
--- m has no bit among those that the layout fixes
-abbrev pub spares : Layout → ℕ → Bool
-spares [] m = true
-spares (bits k x ∷ l) m = eqb (part m (size l) k) 0 && spares l m
-spares (field k a ∷ l) m = spares l m
+-- ---- the bits of a letter, below any others
 
--- whether a word has the layout does not depend on bits that the layout leaves free
-matches-too-kept : (t : Bool) (l : Layout) (w m : ℕ) → spares l m ≡ true → matchesToo t l (bitXor w m) ≡ matchesToo t l w
-matches-too-kept t [] w m s = refl
-matches-too-kept t (bits k x ∷ l) w m s =
-    let b = both (eqb (part m (size l) k) 0) (spares l m) s in
-    ap (λ (n : ℕ). matchesToo (t && eqb n x) l (bitXor w m)) (part-kept w m (size l) k (eqb-true _ _ (b .0)))
-    ∙ matches-too-kept (t && eqb (part w (size l) k) x) l w m (b .1)
-matches-too-kept t (field k a ∷ l) w m s = matches-too-kept t l w m s
+abbrev below : ℕ → Layout → ℕ → ℕ
+below y l a = y * 2 ^ size l + maskOf l a
 
-pub matches-kept : (l : Layout) (w m : ℕ) → spares l m ≡ true → matches l (bitXor w m) ≡ matches l w
-matches-kept = matches-too-kept true
+none-above : (l : Layout) (a : ℕ) → maskOf l a ≡ below 0 l a
+none-above l a = omega arith
 
--- values with the bits of others flipped
-abbrev pub flipEach : List ℕ → List ℕ → List ℕ
-flipEach [] ms = []
-flipEach (x ∷ xs) [] = x ∷ xs
-flipEach (x ∷ xs) (zero ∷ ms) = x ∷ flipEach xs ms
-flipEach (x ∷ xs) (suc m ∷ ms) = bitXor x (suc m) ∷ flipEach xs ms
+of-letter-fits : (a : ℕ) (g : Segment) → ofLetter a g < 2 ^ width g
+of-letter-fits a (bits k x) = pow-pos k
+of-letter-fits a (field k b) = cond-holds (λ (n : ℕ). n < 2 ^ k) (eqb a b) _ _ (λ _. ones-lt k) (λ _. pow-pos k)
 
-flip-head : (x m y : ℕ) (xs ms : List ℕ) (P : List ℕ → Type 0) → y ≡ bitXor x m → ((z : ℕ) → z ≡ y → P (z ∷ flipEach xs ms)) → P (flipEach (x ∷ xs) (m ∷ ms))
-flip-head x zero y xs ms P e k = k x (sym (e ∙ xor-zero-r x))
-flip-head x (suc m) y xs ms P e k = k (bitXor x (suc m)) (sym e)
+mask-fits : (l : Layout) (a : ℕ) → maskOf l a < 2 ^ size l
+mask-fits [] a = omega arith
+mask-fits (g ∷ l) a = rw (pow-add 2 (width g) (size l)) (digits-lt (of-letter-fits a g) (mask-fits l a))
 
--- the fields of a word with the bits of m flipped are its fields with those of m flipped
-pub flipped-agrees : (l : Layout) (w m : ℕ) → Agrees l (flipEach (parts l w) (parts l m)) (bitXor w m)
-flipped-agrees [] w m = tt
-flipped-agrees (bits k x ∷ l) w m = flipped-agrees l w m
-flipped-agrees (field k a ∷ l) w m =
-    flip-head (part w (size l) k) (part m (size l) k) (part (bitXor w m) (size l) k) (parts l w) (parts l m)
-    (λ (vs : List ℕ). Agrees (field k a ∷ l) vs (bitXor w m)) (part-flip w m (size l) k)
-    (λ z e. (e, flipped-agrees l w m))
+module _ (y : ℕ) (g : Segment) (l : Layout) (a : ℕ) where
+  mask-tail : below y (g ∷ l) a ≡ below (y * 2 ^ width g + ofLetter a g) l a
+  mask-tail = above y (ofLetter a g) (width g) (size l) (maskOf l a)
+
+  mask-head : part (below y (g ∷ l) a) (size l) (width g) ≡ ofLetter a g
+  mask-head =
+      ap (λ (m : ℕ). part m (size l) (width g)) mask-tail
+      ∙ head-part y (ofLetter a g) (width g) (size l) (maskOf l a) (of-letter-fits a g) (mask-fits l a)
+
+-- ---- what stays
+
+matches-below : (l : Layout) (a w y : ℕ) → matches l (bitXor w (below y l a)) ≡ matches l w
+matches-below [] a w y = refl
+matches-below (bits k x ∷ l) a w y =
+    ap₂ (λ (t : Bool) (n : ℕ). t && eqb n x)
+    (ap (λ (m : ℕ). matches l (bitXor w m)) (mask-tail y (bits k x) l a) ∙ matches-below l a w (y * 2 ^ k + 0))
+    (part-kept w (below y (bits k x ∷ l) a) (size l) k (mask-head y (bits k x) l a))
+matches-below (field k b ∷ l) a w y =
+    ap (λ (m : ℕ). matches l (bitXor w m)) (mask-tail y (field k b) l a) ∙ matches-below l a w (y * 2 ^ k + ofLetter a (field k b))
+
+-- whether a word has the layout does not depend on the bits of a letter
+pub matches-flipped : (l : Layout) (a : Char) (w : ℕ) → matches l (flip l a w) ≡ matches l w
+matches-flipped l a w = ap (λ (m : ℕ). matches l (bitXor w m)) (none-above l (code a)) ∙ matches-below l (code a) w 0
+
+not-of : (a c k : ℕ) → a ≢ c → ofLetter a (field k c) ≡ 0
+not-of a c k n = rw (ne-eqb a c n)
+
+places-below : (l : Layout) (a b w y : ℕ) → a ≢ b → places l b (bitXor w (below y l a)) ≡ places l b w
+places-below [] a b w y n = refl
+places-below (bits k x ∷ l) a b w y n =
+    ap (λ (m : ℕ). places l b (bitXor w m)) (mask-tail y (bits k x) l a) ∙ places-below l a b w (y * 2 ^ k + 0) n
+places-below (field k c ∷ l) a b w y n =
+    let m = below y (field k c ∷ l) a in
+    ap (λ (ps : List (ℕ × ℕ)). cond (eqb b c) ((k, part (bitXor w m) (size l) k) ∷ ps) ps)
+    (ap (λ (m : ℕ). places l b (bitXor w m)) (mask-tail y (field k c) l a) ∙ places-below l a b w (y * 2 ^ k + ofLetter a (field k c)) n)
+    ∙ cond-then (eqb b c) _ _ _
+    (λ e. ap (λ (v : ℕ). (k, v) ∷ places l b w)
+    (part-kept w m (size l) k (mask-head y (field k c) l a ∙ not-of a c k (λ (q : a ≡ c). n (q ∙ sym (eqb-true b c e))))))
+
+-- every other letter keeps its value
+pub others-kept : (l : Layout) (a b : Char) (w : ℕ) → code a ≢ code b → value l (flip l a w) b ≡ value l w b
+others-kept l a b w n = ap (λ (m : ℕ). value l (bitXor w m) b) (none-above l (code a)) ∙ ap join (places-below l (code a) (code b) w 0 n)
+
+-- a letter that stands at bit p alone has the other value
+pub one-flipped : (l : Layout) (a : Char) (p w : ℕ) → ((w : ℕ) → value l w a ≡ part w p 1) → part (maskOf l (code a)) p 1 ≡ 1
+    → value l (flip l a w) a ≡ bitXor (value l w a) 1
+one-flipped l a p w h e = h (flip l a w) ∙ part-flip w (maskOf l (code a)) p 1 ∙ ap₂ bitXor (sym (h w)) e

@@ -1,16 +1,16 @@
 -- Taking a word apart and putting it together undo one another: two laws, proved once for every layout. Assumes nothing.
-use Prim.Native.Nat.{ℕ, zero, suc, _+_, _*_, _/_, _%_, _^_, _<_}
-use native.Mathlib.Nat.{mod-one, div-one, mod-eq-of-lt, add-mul, mul-assoc, add-assoc}
+use Prim.Native.Nat.{ℕ, _+_, _*_, _/_, _%_, _^_, _<_}
+use native.Mathlib.Nat.{mod-one, mod-eq-of-lt, add-mul, mul-assoc, add-assoc}
 use native.Mathlib.Omega.{arith}
 use mathlib.Core.Path.{_≡_, refl, sym, ap, ap₂, _∙_}
 use mathlib.Core.List.{List, [], _∷_}
-use mathlib.Core.Bool.{Bool, true, _&&_}
+use mathlib.Core.Bool.{true}
 use lib.Dec.{eqb}
 use lib.Pow.{mod-pow-add, pow-add, high, low}
 use lib.Arith.{digits-lt}
 use borrow.Author.Tests.{eqb-true, eq-eqb}
 use Rattle.laws.proofs.Tests.{both}
-use Rattle.layouts.specs.Layout.{Layout, bits, field, size, part, matchesToo, matches, parts, build}
+use Rattle.layouts.specs.Layout.{Layout, bits, field, size, part, matches, parts, build}
 
 -- the values are those of the word
 abbrev pub Agrees : Layout → List ℕ → ℕ → Type 0
@@ -27,29 +27,16 @@ Fit (bits k x ∷ l) vs = (x < 2 ^ k) × Fit l vs
 Fit (field k a ∷ l) [] = ⊥
 Fit (field k a ∷ l) (v ∷ vs) = (v < 2 ^ k) × Fit l vs
 
-pub part-is : (w p k : ℕ) → part w p k ≡ w / 2 ^ p % 2 ^ k
-part-is w zero k = ap (λ (x : ℕ). x % 2 ^ k) (sym (div-one w))
-part-is w (suc p) k = refl
-
--- a test passed so far, and the rest of a match
-pub matched : (t : Bool) (l : Layout) (w : ℕ) → matchesToo t l w ≡ true → (t ≡ true) × (matches l w ≡ true)
-matched t [] w h = (h, refl)
-matched t (bits k x ∷ l) w h =
-    let r = matched (t && eqb (part w (size l) k) x) l w h in
-    let b = both t (eqb (part w (size l) k) x) (r .0) in
-    (b .0, rw (b .1) (r .1))
-matched t (field k a ∷ l) w h = matched t l w h
-
 -- a word that has the layout is the word of its values
 pub build-agrees : (l : Layout) (vs : List ℕ) (w : ℕ) → matches l w ≡ true → Agrees l vs w → build l vs ≡ w % 2 ^ size l
 build-agrees [] vs w h g = sym (mod-one w)
 build-agrees (bits k x ∷ l) vs w h g =
-    let r = matched (eqb (part w (size l) k) x) l w h in
-    ap₂ (λ (a b : ℕ). a * 2 ^ size l + b) (sym (eqb-true _ _ (r .0)) ∙ part-is w (size l) k) (build-agrees l vs w (r .1) g)
+    let r = both (matches l w) (eqb (part w (size l) k) x) h in
+    ap₂ (λ (a b : ℕ). a * 2 ^ size l + b) (sym (eqb-true _ _ (r .1))) (build-agrees l vs w (r .0) g)
     ∙ sym (mod-pow-add w k (size l))
 build-agrees (field k a ∷ l) [] w h g = absurd g
 build-agrees (field k a ∷ l) (v ∷ vs) w h g =
-    ap₂ (λ (a b : ℕ). a * 2 ^ size l + b) (g .0 ∙ part-is w (size l) k) (build-agrees l vs w h (g .1))
+    ap₂ (λ (a b : ℕ). a * 2 ^ size l + b) (g .0) (build-agrees l vs w h (g .1))
     ∙ sym (mod-pow-add w k (size l))
 
 agrees-parts : (l : Layout) (w : ℕ) → Agrees l (parts l w) w
@@ -70,11 +57,11 @@ build-fits (field k a ∷ l) [] f = absurd f
 build-fits (field k a ∷ l) (v ∷ vs) f = rw (pow-add 2 k (size l)) (digits-lt (f .0) (build-fits l vs (f .1)))
 
 -- the bits that a head value puts above the rest
-above : (y v k s r : ℕ) → y * 2 ^ (k + s) + (v * 2 ^ s + r) ≡ (y * 2 ^ k + v) * 2 ^ s + r
+pub above : (y v k s r : ℕ) → y * 2 ^ (k + s) + (v * 2 ^ s + r) ≡ (y * 2 ^ k + v) * 2 ^ s + r
 above y v k s r = simp (pow-add, add-mul, mul-assoc, add-assoc)
 
-head-part : (y v k s r : ℕ) → v < 2 ^ k → r < 2 ^ s → part ((y * 2 ^ k + v) * 2 ^ s + r) s k ≡ v
-head-part y v k s r hv hr = part-is _ s k ∙ ap (λ (x : ℕ). x % 2 ^ k) (high (y * 2 ^ k + v) s hr) ∙ low y k hv
+pub head-part : (y v k s r : ℕ) → v < 2 ^ k → r < 2 ^ s → part ((y * 2 ^ k + v) * 2 ^ s + r) s k ≡ v
+head-part y v k s r hv hr = ap (λ (x : ℕ). x % 2 ^ k) (high (y * 2 ^ k + v) s hr) ∙ low y k hv
 
 -- the second law, whatever stands above the layout's bits
 pub parts-build : (l : Layout) (vs : List ℕ) (y : ℕ) → Fit l vs → (parts l (y * 2 ^ size l + build l vs) ≡ vs) × (matches l (y * 2 ^ size l + build l vs) ≡ true)
@@ -83,7 +70,7 @@ parts-build [] (v ∷ vs) y f = absurd f
 parts-build (bits k x ∷ l) vs y f =
     let r = parts-build l vs (y * 2 ^ k + x) (f .1) in
     let e = head-part y x k (size l) (build l vs) (f .0) (build-fits l vs (f .1)) in
-    rw (above y x k (size l) (build l vs)) (r .0, rw (eq-eqb _ _ e) (r .1))
+    rw (above y x k (size l) (build l vs)) (r .0, rw (r .1) (eq-eqb _ _ e))
 parts-build (field k a ∷ l) [] y f = absurd f
 parts-build (field k a ∷ l) (v ∷ vs) y f =
     let r = parts-build l vs (y * 2 ^ k + v) (f .1) in

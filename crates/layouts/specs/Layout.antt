@@ -1,6 +1,6 @@
 -- A layout of a word, read off its row of text, bit 31 first: 0 and 1 are fixed bits, and a letter is a field. A letter that
 -- stands in several places joins them, the first the most significant. A space says nothing.
-use Prim.Native.Nat.{ℕ, zero, suc, _+_, _-_, _*_, _/_, _%_, _^_}
+use Prim.Native.Nat.{ℕ, _+_, _-_, _*_, _/_, _%_, _^_}
 use Prim.Native.Char.{Char, code}
 use Prim.Native.String.{String, [] as end, _∷_ as then}
 use mathlib.Core.List.{List, [], _∷_}
@@ -50,35 +50,40 @@ abbrev pub size : Layout → ℕ
 size [] = 0
 size (g ∷ l) = width g + size l
 
--- the k bits of w that stand above its p lowest: w / 2 ^ p % 2 ^ k
+-- the k bits of w that stand above its p lowest
 abbrev pub part : ℕ → ℕ → ℕ → ℕ
-part w zero k = w % 2 ^ k
-part w (suc p) k = w / 2 ^ suc p % 2 ^ k
-
--- whether t holds and the fixed bits of the layout are those of the word
-abbrev pub matchesToo : Bool → Layout → ℕ → Bool
-matchesToo t [] w = t
-matchesToo t (bits k x ∷ l) w = matchesToo (t && eqb (part w (size l) k) x) l w
-matchesToo t (field k a ∷ l) w = matchesToo t l w
+part w p k = w / 2 ^ p % 2 ^ k
 
 -- whether the fixed bits of the layout are those of the word
 abbrev pub matches : Layout → ℕ → Bool
-matches l w = matchesToo true l w
+matches [] w = true
+matches (bits k x ∷ l) w = matches l w && eqb (part w (size l) k) x
+matches (field k a ∷ l) w = matches l w
 
--- v, with the layout's bits of the letter of code a after it
-abbrev pub joined : ℕ → Layout → ℕ → ℕ → ℕ
-joined v [] a w = v
-joined v (bits k x ∷ l) a w = joined v l a w
-joined v (field k b ∷ l) a w = cond (eqb a b) (joined (v * 2 ^ k + part w (size l) k) l a w) (joined v l a w)
+-- the places of the letter of code a: of each how many bits stand there, and their number in the word
+abbrev pub places : Layout → ℕ → ℕ → List (ℕ × ℕ)
+places [] a w = []
+places (bits k x ∷ l) a w = places l a w
+places (field k b ∷ l) a w = cond (eqb a b) ((k, part w (size l) k) ∷ places l a w) (places l a w)
 
-abbrev pub valueOf : Layout → ℕ → ℕ → ℕ
-valueOf [] a w = 0
-valueOf (bits k x ∷ l) a w = valueOf l a w
-valueOf (field k b ∷ l) a w = cond (eqb a b) (joined (part w (size l) k) l a w) (valueOf l a w)
+-- how many bits stand in places
+abbrev pub bitsIn : List (ℕ × ℕ) → ℕ
+bitsIn [] = 0
+bitsIn (p ∷ ps) = p .0 + bitsIn ps
+
+-- several places are joined, the first the most significant
+abbrev pub join : List (ℕ × ℕ) → ℕ
+join [] = 0
+join (p ∷ []) = p .1
+join (p ∷ (q ∷ ps)) = p .1 * 2 ^ bitsIn (q ∷ ps) + join (q ∷ ps)
+
+-- a number for each letter
+abbrev pub Letters : Type 0
+Letters = Char → ℕ
 
 -- the value of the field of a letter, 0 where the layout has none
-abbrev pub value : Layout → Char → ℕ → ℕ
-value l a w = valueOf l (code a) w
+abbrev pub value : Layout → ℕ → Letters
+value l w a = join (places l (code a) w)
 
 -- the values of the fields, in the layout's order, a letter's places apart
 abbrev pub parts : Layout → ℕ → List ℕ
@@ -95,11 +100,15 @@ build (bits k x ∷ l) vs = x * 2 ^ size l + build l vs
 build (field k a ∷ l) [] = build l []
 build (field k a ∷ l) (v ∷ vs) = v * 2 ^ size l + build l vs
 
+-- every bit of a segment that is of the letter of code a, and no bit of another
+abbrev pub ofLetter : ℕ → Segment → ℕ
+ofLetter a (bits k x) = 0
+ofLetter a (field k b) = cond (eqb a b) (2 ^ k - 1) 0
+
 -- the word with every bit of a letter set, and no other
 abbrev pub maskOf : Layout → ℕ → ℕ
 maskOf [] a = 0
-maskOf (bits k x ∷ l) a = maskOf l a
-maskOf (field k b ∷ l) a = cond (eqb a b) ((2 ^ k - 1) * 2 ^ size l + maskOf l a) (maskOf l a)
+maskOf (g ∷ l) a = ofLetter a g * 2 ^ size l + maskOf l a
 
 -- the word with the bits of a letter flipped
 abbrev pub flip : Layout → Char → ℕ → ℕ

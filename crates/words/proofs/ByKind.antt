@@ -6,8 +6,9 @@ use mathlib.Core.Logic.{_⊎_, _≢_}
 use mathlib.Core.List.{_++_}
 use mathlib.Core.Bool.{true, false}
 use Rattle.laws.proofs.Tests.{never-both, one-of-three}
+use Rattle.layouts.specs.Layout.{value}
 use Rattle.layouts.proofs.Apart.{other-top}
-use Rattle.words.specs.Rows.{rowC16, rowC32, rowD2, rowD4, rowE2, rowE4}
+use Rattle.words.specs.Rows.{rowB, rowC16, rowC32, rowD2, rowD4, rowE2, rowE4}
 use Rattle.words.specs.Says.{Described, As, Nothing, fieldsB, tableC, tableZa, saysFirst, describe}
 use Rattle.words.specs.Decode.{enables, enablesFamily, noFields, enabledOnly, decodeEnabled}
 use Rattle.words.specs.Kinds.{saysAs, fieldsSaid, fieldsAs, familyAs, enablesSaid, answerTo}
@@ -67,8 +68,8 @@ not-reserved (suc (suc (suc zero))) h l = let p : 64 < 64 = one-of-three (λ n. 
 not-reserved (suc (suc (suc (suc s)))) h l = absurd (omega arith)
 
 -- so a word that says the fields of B has a size that is not reserved
-pub size-of-b : (w : ℕ) → describe w ≡ As (fieldsB w) → w / 4194304 % 4 < 3
-size-of-b w e = not-reserved (w / 4194304 % 4) (omega arith) (in-range w (fieldsB w) e .lane)
+pub size-of-b : (w : ℕ) → describe w ≡ As (fieldsB (value rowB w)) → value rowB w "s" < 3
+size-of-b w e = not-reserved (value rowB w "s") (omega arith) (in-range w (fieldsB (value rowB w)) e .lane)
 
 some-lane : (l : ℕ) → (l ≡ 8) ⊎ ((l ≡ 16) ⊎ (l ≡ 32)) → 0 < l
 some-lane = one-of-three (λ l. 0 < l) 8 16 32 (omega arith) (omega arith) (omega arith)

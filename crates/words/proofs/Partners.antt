@@ -2,13 +2,13 @@
 -- Assumes nothing.
 use Prim.Native.Nat.{ℕ, _<_, _^_}
 use Prim.Native.Char.{code}
-use mathlib.Core.Path.{_≡_, ap, _∙_}
+use mathlib.Core.Path.{_≡_, sym, ap, _∙_}
 use lib.Bits.{bitXor, xor-lt}
 use lib.Dec.{lit<}
 use Rattle.laws.proofs.Lists.{each-of}
 use Rattle.laws.proofs.Bits.{xor-twice}
-use Rattle.layouts.specs.Layout.{flip, maskOf}
-use Rattle.layouts.proofs.Flipped.{matches-kept}
+use Rattle.layouts.specs.Layout.{value, flip, maskOf}
+use Rattle.layouts.proofs.Flipped.{matches-flipped}
 use Rattle.words.specs.Says.{As, table, describe}
 use Rattle.words.specs.Partner.{partnerWord, turned}
 use Rattle.words.specs.Sign.{signOf}
@@ -16,7 +16,7 @@ use Rattle.words.specs.declared.Family.{Family}
 use Rattle.words.specs.declared.Family.the-variants.{ByElement, Vector, Saturating, LongLong, Long}
 use Rattle.words.specs.declared.Fields.{Fields}
 use Rattle.words.proofs.Table.{SaidBy, described-exactly, flipped-in}
-use Rattle.words.proofs.Turned.{Turns, table-turns}
+use Rattle.words.proofs.Turned.{Turns, flipped-reserved, flipped-fields, table-turns}
 
 sign-fits : (family : Family) → signOf family < 2 ^ 32
 sign-fits ByElement = lit< tt
@@ -45,9 +45,9 @@ module _ (w : ℕ) (f : Fields) (e : describe w ≡ As f) where
       record {
         row = said .row;
         listed = said .listed;
-        matching = matches-kept (said .row .layout) w mask (turns .spared) ∙ said .matching;
-        open-size = turns .size-kept w ∙ said .open-size;
-        fields = turns .fields-turned w ∙ ap turned (said .fields);
+        matching = matches-flipped (said .row .layout) "S" w ∙ said .matching;
+        open-size = flipped-reserved (said .row) turns w ∙ said .open-size;
+        fields = flipped-fields (said .row) turns w ∙ ap turned (said .fields);
       }
 
   -- the partner is described, with `subtract` flipped and nothing else
@@ -61,7 +61,9 @@ module _ (w : ℕ) (f : Fields) (e : describe w ≡ As f) where
 
   -- where the code finds S
   pub partner-sign : partnerWord w ≡ bitXor w (signOf (f .family))
-  partner-sign = flipped-in w f said ∙ ap (bitXor w) (turns .sign w ∙ ap (λ (g : Fields). signOf (g .family)) (said .fields))
+  partner-sign =
+      flipped-in w f said
+      ∙ ap (bitXor w) (turns .mask ∙ ap signOf (sym (turns .of-family (value (said .row .layout) w)) ∙ ap (λ (g : Fields). g .family) (said .fields)))
 
   -- the partner of a word of 32 bits has 32 bits
   pub partner-fits : w < 2 ^ 32 → partnerWord w < 2 ^ 32

@@ -9,11 +9,16 @@ use mathlib.Core.Bool.{true, false}
 use Rattle.laws.specs.Lists.{Each}
 use Rattle.laws.proofs.Lists.{each-of}
 use Rattle.laws.proofs.Tests.{both, failed, by-cond}
-use Rattle.layouts.specs.Layout.{Layout, size, matches, flip}
+use Rattle.layouts.specs.Layout.{Layout, size, matches, value, flip}
 use Rattle.layouts.proofs.Apart.{apart, apartFrom, allApart, no-word-in-both}
 use Rattle.words.specs.Says.{As, Nothing, Row, table, saysOf, saysFirst, describe}
 use Rattle.words.specs.Partner.{flipFirst, partnerWord}
 use Rattle.words.specs.declared.Fields.{Fields}
+
+-- what holds of each row, row by row
+infixr 4 _then_
+abbrev pub _then_ : {P Q : Type 0} → P → Q → P × Q
+p then q = (p, q)
 
 abbrev pub layouts : List Row → List Layout
 layouts [] = []
@@ -61,8 +66,8 @@ pub record SaidBy (rs : List Row) (w : ℕ) (f : Fields) : Type 0 where
   pub row : Row
   pub listed : List·Memᴰ row rs
   pub matching : matches (row .layout) w ≡ true
-  pub open-size : row .reserved w ≡ false
-  pub fields : row .fields w ≡ f
+  pub open-size : row .reserved (value (row .layout) w) ≡ false
+  pub fields : row .fields (value (row .layout) w) ≡ f
 
 -- what a description says is one thing, and is not nothing
 found : (g f : Fields) → As g ≡ As f → g ≡ f
@@ -75,9 +80,9 @@ first-said : (rs : List Row) (w : ℕ) (f : Fields) → saysFirst rs w ≡ As f 
 first-said [] w f = λ e. absurd (never f e)
 first-said (r ∷ rs) w f =
     by-cond (matches (r .layout) w) (saysOf r w) (saysFirst rs w) (As f)
-    (λ m. by-cond (r .reserved w) Nothing (As (r .fields w)) (As f)
+    (λ m. by-cond (r .reserved (value (r .layout) w)) Nothing (As (r .fields (value (r .layout) w))) (As f)
     (λ _ e. absurd (never f e))
-    (λ o e. record { row = r; listed = List·Memᴰ·head refl; matching = m; open-size = o; fields = found (r .fields w) f e }))
+    (λ o e. record { row = r; listed = List·Memᴰ·head refl; matching = m; open-size = o; fields = found _ f e }))
     (λ _ e.
     let s = first-said rs w f e in
     record { row = s .row; listed = List·Memᴰ·tail (s .listed); matching = s .matching; open-size = s .open-size; fields = s .fields })
@@ -114,7 +119,7 @@ described-exactly w f = (first-said table w f, said-first w f)
 
 -- P holds of what the row says of w, where it says anything
 abbrev pub WhereSaid : (Fields → Type 0) → ℕ → Row → Type 0
-WhereSaid P w r = matches (r .layout) w ≡ true → r .reserved w ≡ false → P (r .fields w)
+WhereSaid P w r = matches (r .layout) w ≡ true → r .reserved (value (r .layout) w) ≡ false → P (r .fields (value (r .layout) w))
 
 -- what holds of each row's fields holds of the word's
 pub said-each : (P : Fields → Type 0) (w : ℕ) (f : Fields) → Each (WhereSaid P w) table → describe w ≡ As f → P f

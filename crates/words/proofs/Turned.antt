@@ -1,138 +1,122 @@
--- Flipping S flips `subtract` and nothing else: of each row, from the text of its layout. Assumes nothing.
-use Prim.Native.Nat.{ℕ, _/_, _%_, _<_}
+-- Flipping S flips `subtract` and nothing else: one law over the rows, and what it asks of each. Assumes nothing.
+use Prim.Native.Nat.{ℕ, _^_, _<_}
+use Prim.Native.Char.{Char, code}
 use native.Mathlib.Omega.{arith}
-use mathlib.Core.Path.{_≡_, refl, sym, ap}
+use mathlib.Core.Path.{_≡_, refl, sym, ap, _∙_}
 use mathlib.Core.Bool.{Bool, true, false, not, cond}
 use lib.Dec.{eqb}
 use lib.Bits.{bitXor}
-use Prim.Native.Char.{code}
+use borrow.Author.Tests.{eqb-true, eqb-false}
 use Rattle.laws.specs.Lists.{Each}
 use Rattle.laws.proofs.Bits.{one-bit}
 use Rattle.laws.proofs.Tests.{cond-holds}
-use Rattle.layouts.specs.Layout.{flip, maskOf}
-use Rattle.layouts.proofs.Flipped.{spares, flipped-agrees}
-use Rattle.words.specs.Rows.{rowA, rowB, rowC16, rowC32, rowD2, rowD4, rowE2, rowE4}
-use Rattle.words.specs.Says.{Row, table, fieldsA16, fieldsA32, fieldsA, fieldsB, fieldsC, fieldsD, fieldsE, isOne}
+use Rattle.layouts.specs.Layout.{Layout, Letters, part, value, maskOf, flip}
+use Rattle.layouts.proofs.Flipped.{others-kept, one-flipped}
+use Rattle.words.specs.Numbers.{bitOf}
+use Rattle.words.specs.Rows.{rowC16, rowC32, rowD2, rowD4, rowE2, rowE4}
+use Rattle.words.specs.Says.{Row, entry, table, fieldsA16, fieldsA32, fieldsA, fieldsB, fieldsC, fieldsD, fieldsE, isOne}
 use Rattle.words.specs.Partner.{turned}
-use Rattle.words.specs.Sign.{signOf}
+use Rattle.words.specs.Sign.{signAt, signOf}
+use Rattle.words.specs.declared.Family.{Family}
+use Rattle.words.specs.declared.Family.the-variants.{ByElement, Vector, Saturating, LongLong, Long}
 use Rattle.words.specs.declared.Fields.{Fields}
+use Rattle.words.proofs.Numbers.{bit-back}
+use Rattle.words.proofs.Table.{_then_}
 
--- a flipped bit
-not-one : (b x : ℕ) → b < 2 → bitXor b 1 ≡ x → isOne x ≡ not (isOne b)
-not-one b x = one-bit (λ c. bitXor c 1 ≡ x → isOne x ≡ not (isOne c)) (λ e. ap isOne (sym e)) (λ e. ap isOne (sym e)) b
+-- the letters with S the other bit
+abbrev pub otherS : Letters → Letters
+otherS v a = cond (eqb (code "S") (code a)) (bitOf (not (isOne (v "S")))) (v a)
 
--- w is the word. In each row S is one bit, which is flipped, and all other fields are kept. What the row says of the flipped word follows
--- by putting equals for equals
-module _ (w : ℕ) where
-  turnedA16 : fieldsA16 (flip rowA "S" w) ≡ turned (fieldsA16 w)
-  unfolding turned
-  turnedA16 =
-      let g = flipped-agrees rowA w 16384 in
-      let s = not-one (w / 16384 % 2) (bitXor w 16384 / 16384 % 2) (omega arith) (g .1 .1 .1 .1 .1 .1 .0) in
-      cc
+-- what is asked of a row: S is one bit, where its family has it, `subtract` is read off S, and nothing else is
+pub record Turns (r : Row) : Type 0 where
+  pub family : Family
+  pub of-family : (v : Letters) → r .fields v .family ≡ family
+  pub s-at : (w : ℕ) → value (r .layout) w "S" ≡ part w (signAt family) 1
+  pub mask : maskOf (r .layout) (code "S") ≡ signOf family
+  pub size-kept : (v : Letters) → r .reserved (otherS v) ≡ r .reserved v
+  pub fields-turned : (v : Letters) → r .fields (otherS v) ≡ turned (r .fields v)
 
-  turnedA32 : fieldsA32 (flip rowA "S" w) ≡ turned (fieldsA32 w)
-  unfolding turned
-  turnedA32 =
-      let g = flipped-agrees rowA w 16384 in
-      let s = not-one (w / 16384 % 2) (bitXor w 16384 / 16384 % 2) (omega arith) (g .1 .1 .1 .1 .1 .1 .0) in
-      cc
+-- ---- the law
 
-  turnedB : fieldsB (flip rowB "S" w) ≡ turned (fieldsB w)
-  unfolding turned
-  turnedB =
-      let g = flipped-agrees rowB w 8192 in
-      let s = not-one (w / 8192 % 2) (bitXor w 8192 / 8192 % 2) (omega arith) (g .1 .1 .1 .1 .0) in
-      cc
+sign-set : (family : Family) → part (signOf family) (signAt family) 1 ≡ 1
+sign-set ByElement = refl
+sign-set Vector = refl
+sign-set Saturating = refl
+sign-set LongLong = refl
+sign-set Long = refl
 
-  turnedC16 : fieldsC rowC16 16 (flip rowC16 "S" w) ≡ turned (fieldsC rowC16 16 w)
-  unfolding turned
-  turnedC16 =
-      let g = flipped-agrees rowC16 w 4096 in
-      let s = not-one (w / 4096 % 2) (bitXor w 4096 / 4096 % 2) (omega arith) (g .1 .1 .0) in
-      cc
+other-bit : (b : ℕ) → b < 2 → bitXor b 1 ≡ bitOf (not (isOne b))
+other-bit = one-bit (λ b. bitXor b 1 ≡ bitOf (not (isOne b))) refl refl
 
-  turnedC32 : fieldsC rowC32 32 (flip rowC32 "S" w) ≡ turned (fieldsC rowC32 32 w)
-  unfolding turned
-  turnedC32 =
-      let g = flipped-agrees rowC32 w 4096 in
-      let s = not-one (w / 4096 % 2) (bitXor w 4096 / 4096 % 2) (omega arith) (g .1 .1 .0) in
-      cc
+module _ (r : Row) (t : Turns r) (w : ℕ) where
+  flipped-s : value (r .layout) (flip (r .layout) "S" w) "S" ≡ bitOf (not (isOne (value (r .layout) w "S")))
+  flipped-s =
+      one-flipped (r .layout) "S" (signAt (t .family)) w (t .s-at) (ap (λ (m : ℕ). part m (signAt (t .family)) 1) (t .mask) ∙ sign-set (t .family))
+      ∙ other-bit (value (r .layout) w "S") (rw (t .s-at w) (omega arith))
 
-  turnedD2 : fieldsD rowD2 2 (flip rowD2 "S" w) ≡ turned (fieldsD rowD2 2 w)
-  unfolding turned
-  turnedD2 =
-      let g = flipped-agrees rowD2 w 8 in
-      let s = not-one (w / 8 % 2) (bitXor w 8 / 8 % 2) (omega arith) (g .1 .1 .1 .1 .1 .0) in
-      cc
+  flipped-letter : (a : Char) → value (r .layout) (flip (r .layout) "S" w) a ≡ otherS (value (r .layout) w) a
+  flipped-letter a =
+      cond-holds (λ (n : ℕ). value (r .layout) (flip (r .layout) "S" w) a ≡ n) (eqb (code "S") (code a)) _ _
+      (λ e. rw (← eqb-true (code "S") (code a) e) flipped-s)
+      (λ e. others-kept (r .layout) "S" a w (eqb-false _ _ e))
 
-  turnedD4 : fieldsD rowD4 4 (flip rowD4 "S" w) ≡ turned (fieldsD rowD4 4 w)
-  unfolding turned
-  turnedD4 =
-      let g = flipped-agrees rowD4 w 8 in
-      let s = not-one (w / 8 % 2) (bitXor w 8 / 8 % 2) (omega arith) (g .1 .1 .1 .1 .1 .0) in
-      cc
+  -- a word with S flipped has the same letters, but for S
+  flipped-letters : value (r .layout) (flip (r .layout) "S" w) ≡ otherS (value (r .layout) w)
+  flipped-letters = λ i a. flipped-letter a i
 
-  turnedE2 : fieldsE rowE2 2 (flip rowE2 "S" w) ≡ turned (fieldsE rowE2 2 w)
-  unfolding turned
-  turnedE2 =
-      let g = flipped-agrees rowE2 w 8 in
-      let s = not-one (w / 8 % 2) (bitXor w 8 / 8 % 2) (omega arith) (g .1 .1 .1 .1 .0) in
-      cc
+  pub flipped-reserved : r .reserved (value (r .layout) (flip (r .layout) "S" w)) ≡ r .reserved (value (r .layout) w)
+  flipped-reserved = ap (r .reserved) flipped-letters ∙ t .size-kept (value (r .layout) w)
 
-  turnedE4 : fieldsE rowE4 4 (flip rowE4 "S" w) ≡ turned (fieldsE rowE4 4 w)
-  unfolding turned
-  turnedE4 =
-      let g = flipped-agrees rowE4 w 8 in
-      let s = not-one (w / 8 % 2) (bitXor w 8 / 8 % 2) (omega arith) (g .1 .1 .1 .1 .0) in
-      cc
+  pub flipped-fields : r .fields (value (r .layout) (flip (r .layout) "S" w)) ≡ turned (r .fields (value (r .layout) w))
+  flipped-fields = ap (r .fields) flipped-letters ∙ t .fields-turned (value (r .layout) w)
+
+-- ---- the rows
+
+module _ (v : Letters) where
+  s-back : isOne (bitOf (not (isOne (v "S")))) ≡ not (isOne (v "S"))
+  s-back = bit-back (not (isOne (v "S")))
 
   turned-choice : (b : Bool) (f g : Fields) → cond b (turned f) (turned g) ≡ turned (cond b f g)
   turned-choice true f g = refl
   turned-choice false f g = refl
 
-  sizeA-kept : flip rowA "S" w / 4194304 % 4 ≡ w / 4194304 % 4
-  sizeA-kept = sym (flipped-agrees rowA w 16384 .1 .1 .0)
+  turned-a : fieldsA (otherS v) ≡ turned (fieldsA v)
+  unfolding turned
+  turned-a = rw s-back (turned-choice (eqb (v "s") 0b01) (fieldsA16 v) (fieldsA32 v))
 
-  sizeB-kept : flip rowB "S" w / 4194304 % 4 ≡ w / 4194304 % 4
-  sizeB-kept = sym (flipped-agrees rowB w 8192 .1 .1 .0)
+  family-a : (b : Bool) → cond b (fieldsA16 v) (fieldsA32 v) .family ≡ ByElement
+  family-a true = refl
+  family-a false = refl
 
-  turnedA : fieldsA (flip rowA "S" w) ≡ turned (fieldsA w)
-  turnedA = rw (sizeA-kept, turnedA16, turnedA32) (turned-choice (eqb (w / 4194304 % 4) 1) (fieldsA16 w) (fieldsA32 w))
+  turned-b : fieldsB (otherS v) ≡ turned (fieldsB v)
+  unfolding turned
+  turned-b = rw s-back
 
-  signA : (b : Bool) → signOf (cond b (fieldsA16 w) (fieldsA32 w) .family) ≡ 16384
-  signA b = cond-holds (λ (g : Fields). signOf (g .family) ≡ 16384) b (fieldsA16 w) (fieldsA32 w) (λ _. refl) (λ _. refl)
+  turned-c : (lane : ℕ) → fieldsC lane (otherS v) ≡ turned (fieldsC lane v)
+  unfolding turned
+  turned-c lane = rw s-back
 
--- the row keeps its match and its size, turns its fields, and has S where the family has it
-pub record Turns (r : Row) : Type 0 where
-  pub spared : spares (r .layout) (maskOf (r .layout) (code "S")) ≡ true
-  pub size-kept : (w : ℕ) → r .reserved (flip (r .layout) "S" w) ≡ r .reserved w
-  pub fields-turned : (w : ℕ) → r .fields (flip (r .layout) "S" w) ≡ turned (r .fields w)
-  pub sign : (w : ℕ) → maskOf (r .layout) (code "S") ≡ signOf (r .fields w .family)
+  turned-d : (group : ℕ) → fieldsD group (otherS v) ≡ turned (fieldsD group v)
+  unfolding turned
+  turned-d group = rw s-back
+
+  turned-e : (group : ℕ) → fieldsE group (otherS v) ≡ turned (fieldsE group v)
+  unfolding turned
+  turned-e group = rw s-back
+
+-- a row of one family and without reserved sizes
+turns : (family : Family) (l : Layout) (fields : Letters → Fields) → ((w : ℕ) → value l w "S" ≡ part w (signAt family) 1) → maskOf l (code "S") ≡ signOf family
+    → ((v : Letters) → fields v .family ≡ family) → ((v : Letters) → fields (otherS v) ≡ turned (fields v)) → Turns (entry l fields)
+turns family l fields s m f k = record { family = family; s-at = s; mask = m; of-family = f; size-kept = λ v. refl; fields-turned = k }
 
 pub table-turns : Each Turns table
-table-turns = (
-  record { spared = refl; size-kept = λ w. rw (sizeA-kept w); fields-turned = turnedA; sign = λ w. sym (signA w (eqb (w / 4194304 % 4) 1)) },
-  (
-    record { spared = refl; size-kept = λ w. rw (sizeB-kept w); fields-turned = turnedB; sign = λ w. refl },
-    (
-      record { spared = refl; size-kept = λ w. refl; fields-turned = turnedC16; sign = λ w. refl },
-      (
-        record { spared = refl; size-kept = λ w. refl; fields-turned = turnedC32; sign = λ w. refl },
-        (
-          record { spared = refl; size-kept = λ w. refl; fields-turned = turnedD2; sign = λ w. refl },
-          (
-            record { spared = refl; size-kept = λ w. refl; fields-turned = turnedD4; sign = λ w. refl },
-            (
-              record { spared = refl; size-kept = λ w. refl; fields-turned = turnedE2; sign = λ w. refl },
-              (
-                record { spared = refl; size-kept = λ w. refl; fields-turned = turnedE4; sign = λ w. refl },
-                tt,
-              ),
-            ),
-          ),
-        ),
-      ),
-    ),
-  ),
-)
+table-turns =
+    record { family = ByElement; s-at = λ w. refl; mask = refl; of-family = λ v. family-a v (eqb (v "s") 0b01); size-kept = λ v. refl; fields-turned = turned-a }
+    then record { family = Vector; s-at = λ w. refl; mask = refl; of-family = λ v. refl; size-kept = λ v. refl; fields-turned = turned-b }
+    then turns Saturating rowC16 (fieldsC 16) (λ w. refl) refl (λ v. refl) (λ v. turned-c v 16)
+    then turns Saturating rowC32 (fieldsC 32) (λ w. refl) refl (λ v. refl) (λ v. turned-c v 32)
+    then turns LongLong rowD2 (fieldsD 2) (λ w. refl) refl (λ v. refl) (λ v. turned-d v 2)
+    then turns LongLong rowD4 (fieldsD 4) (λ w. refl) refl (λ v. refl) (λ v. turned-d v 4)
+    then turns Long rowE2 (fieldsE 2) (λ w. refl) refl (λ v. refl) (λ v. turned-e v 2)
+    then turns Long rowE4 (fieldsE 4) (λ w. refl) refl (λ v. refl) (λ v. turned-e v 4)
+    then tt

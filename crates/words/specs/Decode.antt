@@ -24,7 +24,8 @@ enablesFamily features Long lane = hasFeatures features sme2
 unfoldable pub enables : ℕ → Fields → Bool
 enables features f = enablesFamily features (f .family) (f .lane)
 
--- the zeros of a refusal
+-- the zeros of a refusal. No family is zero, so the first stands here as it does in the code: what tells a refusal is the number beside the
+-- fields, which is never 0
 abbrev pub noFields : Fields
 noFields =
     record {

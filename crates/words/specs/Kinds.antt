@@ -1,7 +1,8 @@
 -- Only contracts and proofs use this: of what kind a word is, and what the kind says of the word.
 use Prim.Native.Nat.{ℕ}
 use mathlib.Core.Bool.{Bool, false}
-use Rattle.words.specs.Rows.{rowC16, rowC32, rowD2, rowD4, rowE2, rowE4}
+use Rattle.layouts.specs.Layout.{value}
+use Rattle.words.specs.Rows.{rowA, rowB, rowC16, rowC32, rowD2, rowD4, rowE2, rowE4}
 use Rattle.words.specs.Says.{Described, As, Nothing, fieldsA16, fieldsA32, fieldsB, fieldsC, fieldsD, fieldsE}
 use Rattle.words.specs.Decode.{enables, noFields}
 use Rattle.words.specs.declared.Family.{Family}
@@ -12,15 +13,15 @@ use Rattle.words.specs.declared.Kind.the-variants as kind
 
 -- what a word of the kind says
 unfoldable pub saysAs : Kind → ℕ → Described
-saysAs kind.ByElement16 w = As (fieldsA16 w)
-saysAs kind.ByElement32 w = As (fieldsA32 w)
-saysAs kind.Vector w = As (fieldsB w)
-saysAs kind.Saturating16 w = As (fieldsC rowC16 16 w)
-saysAs kind.Saturating32 w = As (fieldsC rowC32 32 w)
-saysAs kind.LongLong2 w = As (fieldsD rowD2 2 w)
-saysAs kind.LongLong4 w = As (fieldsD rowD4 4 w)
-saysAs kind.Long2 w = As (fieldsE rowE2 2 w)
-saysAs kind.Long4 w = As (fieldsE rowE4 4 w)
+saysAs kind.ByElement16 w = As (fieldsA16 (value rowA w))
+saysAs kind.ByElement32 w = As (fieldsA32 (value rowA w))
+saysAs kind.Vector w = As (fieldsB (value rowB w))
+saysAs kind.Saturating16 w = As (fieldsC 16 (value rowC16 w))
+saysAs kind.Saturating32 w = As (fieldsC 32 (value rowC32 w))
+saysAs kind.LongLong2 w = As (fieldsD 2 (value rowD2 w))
+saysAs kind.LongLong4 w = As (fieldsD 4 (value rowD4 w))
+saysAs kind.Long2 w = As (fieldsE 2 (value rowE2 w))
+saysAs kind.Long4 w = As (fieldsE 4 (value rowE4 w))
 saysAs kind.Nothing w = Nothing
 
 -- the fields that are said, or the zeros of a refusal

@@ -3,7 +3,7 @@ use Prim.Native.Nat.{ℕ, _+_, _*_, _^_}
 use mathlib.Core.Bool.{Bool, false, not, _||_, cond}
 use mathlib.Core.List.{List, [], _∷_, _++_}
 use lib.Dec.{eqb}
-use Rattle.layouts.specs.Layout.{Layout, matches, value}
+use Rattle.layouts.specs.Layout.{Layout, matches, Letters, value}
 use Rattle.words.specs.Rows.{rowA, rowB, rowC16, rowC32, rowD2, rowD4, rowE2, rowE4}
 use Rattle.words.specs.declared.Family.{Family}
 use Rattle.words.specs.declared.Family.the-variants.{ByElement, Vector, Saturating, LongLong, Long}
@@ -18,18 +18,20 @@ pub data Described : Type 0 where
 abbrev pub isOne : ℕ → Bool
 isOne x = eqb x 1
 
+-- What a word of a row says follows from the values v of the row's letters.
+
 -- A, of a lane, an index and a second source
-abbrev pub byElement : ℕ → ℕ → ℕ → ℕ → Fields
-byElement w lane index second =
+abbrev pub byElement : Letters → ℕ → ℕ → ℕ → Fields
+byElement v lane index second =
     record {
       family = ByElement;
-      unsigned = isOne (value rowA "U" w);
-      subtract = isOne (value rowA "S" w);
+      unsigned = isOne (v "U");
+      subtract = isOne (v "S");
       lane = lane;
-      part = value rowA "Q" w;
+      part = v "Q";
       index = index;
-      destination = value rowA "d" w;
-      first = value rowA "n" w;
+      destination = v "d";
+      first = v "n";
       second = second;
       group = 1;
       select = 0;
@@ -37,58 +39,58 @@ byElement w lane index second =
     }
 
 -- ss 01 has lane 16, index H:L:M, second source 0:mmmm
-abbrev pub fieldsA16 : ℕ → Fields
-fieldsA16 w = byElement w 16 (value rowA "H" w * 4 + value rowA "L" w * 2 + value rowA "M" w) (value rowA "m" w)
+abbrev pub fieldsA16 : Letters → Fields
+fieldsA16 v = byElement v 16 (v "H" * 4 + v "L" * 2 + v "M") (v "m")
 
 -- ss 10 has lane 32, index H:L, second source M:mmmm
-abbrev pub fieldsA32 : ℕ → Fields
-fieldsA32 w = byElement w 32 (value rowA "H" w * 2 + value rowA "L" w) (value rowA "M" w * 16 + value rowA "m" w)
+abbrev pub fieldsA32 : Letters → Fields
+fieldsA32 v = byElement v 32 (v "H" * 2 + v "L") (v "M" * 16 + v "m")
 
-abbrev pub fieldsA : ℕ → Fields
-fieldsA w = cond (eqb (value rowA "s" w) 0b01) (fieldsA16 w) (fieldsA32 w)
+abbrev pub fieldsA : Letters → Fields
+fieldsA v = cond (eqb (v "s") 0b01) (fieldsA16 v) (fieldsA32 v)
 
 -- others are refused
-abbrev pub reservedA : ℕ → Bool
-reservedA w = not (eqb (value rowA "s" w) 0b01 || eqb (value rowA "s" w) 0b10)
+abbrev pub reservedA : Letters → Bool
+reservedA v = not (eqb (v "s") 0b01 || eqb (v "s") 0b10)
 
 -- B, of a lane
-abbrev pub vector : ℕ → ℕ → Fields
-vector w lane =
+abbrev pub byVector : Letters → ℕ → Fields
+byVector v lane =
     record {
       family = Vector;
-      unsigned = isOne (value rowB "U" w);
-      subtract = isOne (value rowB "S" w);
+      unsigned = isOne (v "U");
+      subtract = isOne (v "S");
       lane = lane;
-      part = value rowB "Q" w;
+      part = v "Q";
       index = 0;
-      destination = value rowB "d" w;
-      first = value rowB "n" w;
-      second = value rowB "m" w;
+      destination = v "d";
+      first = v "n";
+      second = v "m";
       group = 1;
       select = 0;
       offset = 0;
     }
 
 -- lane 8<<ss
-abbrev pub fieldsB : ℕ → Fields
-fieldsB w = vector w (8 * 2 ^ value rowB "s" w)
+abbrev pub fieldsB : Letters → Fields
+fieldsB v = byVector v (8 * 2 ^ v "s")
 
 -- ss 11 refused
-abbrev pub reservedB : ℕ → Bool
-reservedB w = eqb (value rowB "s" w) 0b11
+abbrev pub reservedB : Letters → Bool
+reservedB v = eqb (v "s") 0b11
 
 -- C, of a lane, an index and a second source
-abbrev pub saturating : Layout → ℕ → ℕ → ℕ → ℕ → Fields
-saturating row w lane index second =
+abbrev pub saturating : Letters → ℕ → ℕ → ℕ → Fields
+saturating v lane index second =
     record {
       family = Saturating;
       unsigned = false;
-      subtract = isOne (value row "S" w);
+      subtract = isOne (v "S");
       lane = lane;
-      part = value row "T" w;
+      part = v "T";
       index = index;
-      destination = value row "d" w;
-      first = value row "n" w;
+      destination = v "d";
+      first = v "n";
       second = second;
       group = 1;
       select = 0;
@@ -96,16 +98,16 @@ saturating row w lane index second =
     }
 
 -- the index joins its high and low i bits
-abbrev pub fieldsC : Layout → ℕ → ℕ → Fields
-fieldsC row lane w = saturating row w lane (value row "i" w) (value row "m" w)
+abbrev pub fieldsC : ℕ → Letters → Fields
+fieldsC lane v = saturating v lane (v "i") (v "m")
 
 -- D and E, of a lane, the two sources, the group and the offset: the select register is W(8+vv)
-abbrev pub intoZa : Family → Layout → ℕ → ℕ → ℕ → ℕ → ℕ → ℕ → Fields
-intoZa family row w lane first second group offset =
+abbrev pub intoZa : Family → Letters → ℕ → ℕ → ℕ → ℕ → ℕ → Fields
+intoZa family v lane first second group offset =
     record {
       family = family;
-      unsigned = isOne (value row "U" w);
-      subtract = isOne (value row "S" w);
+      unsigned = isOne (v "U");
+      subtract = isOne (v "S");
       lane = lane;
       part = 0;
       index = 0;
@@ -113,23 +115,23 @@ intoZa family row w lane first second group offset =
       first = first;
       second = second;
       group = group;
-      select = 8 + value row "v" w;
+      select = 8 + v "v";
       offset = offset;
     }
 
 -- D: lane 8 (z=0) or 16 (z=1), offset 4·o; the first source is nnn(n) times the group, likewise the second
-abbrev pub fieldsD : Layout → ℕ → ℕ → Fields
-fieldsD row group w = intoZa LongLong row w (8 + 8 * value row "z" w) (value row "n" w * group) (value row "m" w * group) group (4 * value row "o" w)
+abbrev pub fieldsD : ℕ → Letters → Fields
+fieldsD group v = intoZa LongLong v (8 + 8 * v "z") (v "n" * group) (v "m" * group) group (4 * v "o")
 
 -- E: lane 16, offset 2·oo; the sources as in D
-abbrev pub fieldsE : Layout → ℕ → ℕ → Fields
-fieldsE row group w = intoZa Long row w 16 (value row "n" w * group) (value row "m" w * group) group (2 * value row "o" w)
+abbrev pub fieldsE : ℕ → Letters → Fields
+fieldsE group v = intoZa Long v 16 (v "n" * group) (v "m" * group) group (2 * v "o")
 
 -- a row of the table: the layout, whether a word's size is reserved, and what a word says
 pub record Row : Type 0 where
   pub layout : Layout
-  pub reserved : ℕ → Bool
-  pub fields : ℕ → Fields
+  pub reserved : Letters → Bool
+  pub fields : Letters → Fields
 
 abbrev pub entryA : Row
 entryA = record { layout = rowA; reserved = reservedA; fields = fieldsA }
@@ -138,24 +140,23 @@ abbrev pub entryB : Row
 entryB = record { layout = rowB; reserved = reservedB; fields = fieldsB }
 
 -- a row without reserved sizes
-abbrev pub entry : Layout → (ℕ → Fields) → Row
-entry layout fields = record { layout = layout; reserved = λ w. false; fields = fields }
+abbrev pub entry : Layout → (Letters → Fields) → Row
+entry layout fields = record { layout = layout; reserved = λ v. false; fields = fields }
 
 -- the rows of C
 abbrev pub tableC : List Row
-tableC = entry rowC16 (fieldsC rowC16 16) ∷ entry rowC32 (fieldsC rowC32 32) ∷ []
+tableC = entry rowC16 (fieldsC 16) ∷ entry rowC32 (fieldsC 32) ∷ []
 
 -- the rows that write ZA
 abbrev pub tableZa : List Row
-tableZa =
-    entry rowD2 (fieldsD rowD2 2) ∷ entry rowD4 (fieldsD rowD4 4) ∷ entry rowE2 (fieldsE rowE2 2) ∷ entry rowE4 (fieldsE rowE4 4) ∷ []
+tableZa = entry rowD2 (fieldsD 2) ∷ entry rowD4 (fieldsD 4) ∷ entry rowE2 (fieldsE 2) ∷ entry rowE4 (fieldsE 4) ∷ []
 
 abbrev pub table : List Row
 table = entryA ∷ entryB ∷ tableC ++ tableZa
 
 -- what a word of the row says
 abbrev pub saysOf : Row → ℕ → Described
-saysOf r w = cond (r .reserved w) Nothing (As (r .fields w))
+saysOf r w = cond (r .reserved (value (r .layout) w)) Nothing (As (r .fields (value (r .layout) w)))
 
 -- what the first row that matches says
 abbrev pub saysFirst : List Row → ℕ → Described

@@ -1,9 +1,9 @@
 ghost use mathlib.Core.Path.{_≡_};
 ghost use Prim.Native.Nat.{_*_, _^_, _<_};
-ghost use Rattle.layouts.specs.Layout.{matches};
+ghost use Rattle.layouts.specs.Layout.{matches, value};
 ghost use Rattle.words.specs.Numbers.{familyNumber, bitOf};
 ghost use Rattle.words.specs.Rows.{rowA, rowB, rowC16, rowC32, rowD2, rowD4, rowE2, rowE4};
-ghost use Rattle.words.specs.Says.{byElement, fieldsA16, fieldsA32, vector, saturating, fieldsC, intoZa, fieldsD, fieldsE, As, entryA, entryB, tableC, tableZa, saysOf, saysFirst, describe as describePaper};
+ghost use Rattle.words.specs.Says.{byElement, fieldsA16, fieldsA32, byVector, saturating, fieldsC, intoZa, fieldsD, fieldsE, As, entryA, entryB, tableC, tableZa, saysOf, saysFirst, describe as describePaper};
 ghost use Rattle.words.specs.Decode.{enablesFamily, enables as enablesPaper, decodedSays, decodePaper};
 ghost use Rattle.words.specs.Kinds.{fieldsAs, saysAs, familyAs, enablesSaid, answerTo};
 ghost use Rattle.words.specs.Partner.{partneredSays, PartnerPromise};
@@ -93,90 +93,91 @@ pub fn bit(b: bool) -> u32
     if b { 1 } else { 0 }
 }
 
+// Whether a word has the fixed bits of a row: of each row the last are tested first, as `matches` has them.
 // 0 Q U 01111 ss L M mmmm 0 S 1 0 H 0 nnnnn ddddd
 fn is_a(w: u32) -> bool
     ensures { λ r. ⌜ r ≡ matches rowA w ⌝ }
 {
-    (w / BIT_31 % 2 == 0)
-        & (w / BIT_24 % 32 == 0b01111)
-        & (w / BIT_15 % 2 == 0)
+    (w / BIT_10 % 2 == 0)
         & (w / BIT_12 % 4 == 0b10)
-        & (w / BIT_10 % 2 == 0)
+        & (w / BIT_15 % 2 == 0)
+        & (w / BIT_24 % 32 == 0b01111)
+        & (w / BIT_31 % 2 == 0)
 }
 
 // 0 Q U 01110 ss 1 mmmmm 1 0 S 0 0 0 nnnnn ddddd
 fn is_b(w: u32) -> bool
     ensures { λ r. ⌜ r ≡ matches rowB w ⌝ }
 {
-    (w / BIT_31 % 2 == 0)
-        & (w / BIT_24 % 32 == 0b01110)
-        & (w / BIT_21 % 2 == 1)
+    (w / BIT_10 % 8 == 0b000)
         & (w / BIT_14 % 4 == 0b10)
-        & (w / BIT_10 % 8 == 0b000)
+        & (w / BIT_21 % 2 == 1)
+        & (w / BIT_24 % 32 == 0b01110)
+        & (w / BIT_31 % 2 == 0)
 }
 
 // 01000100 10 1 ii mmm 001 S i T nnnnn ddddd
 fn is_c16(w: u32) -> bool
     ensures { λ r. ⌜ r ≡ matches rowC16 w ⌝ }
 {
-    (w / BIT_21 % 2048 == 0b01000100101) & (w / BIT_13 % 8 == 0b001)
+    (w / BIT_13 % 8 == 0b001) & (w / BIT_21 % 2048 == 0b01000100101)
 }
 
 // 01000100 11 1 i mmmm 001 S i T nnnnn ddddd
 fn is_c32(w: u32) -> bool
     ensures { λ r. ⌜ r ≡ matches rowC32 w ⌝ }
 {
-    (w / BIT_21 % 2048 == 0b01000100111) & (w / BIT_13 % 8 == 0b001)
+    (w / BIT_13 % 8 == 0b001) & (w / BIT_21 % 2048 == 0b01000100111)
 }
 
 // 110000011 z 1 mmmm 0 0 vv 000 nnnn 0 U S 0 0 o
 fn is_d2(w: u32) -> bool
     ensures { λ r. ⌜ r ≡ matches rowD2 w ⌝ }
 {
-    (w / BIT_23 % 512 == 0b110000011)
-        & (w / BIT_21 % 2 == 1)
-        & (w / BIT_15 % 4 == 0b00)
-        & (w / BIT_10 % 8 == 0b000)
+    (w / BIT_1 % 4 == 0b00)
         & (w / BIT_5 % 2 == 0)
-        & (w / BIT_1 % 4 == 0b00)
+        & (w / BIT_10 % 8 == 0b000)
+        & (w / BIT_15 % 4 == 0b00)
+        & (w / BIT_21 % 2 == 1)
+        & (w / BIT_23 % 512 == 0b110000011)
 }
 
 // 110000011 z 1 mmm 0 1 0 vv 000 nnn 0 0 U S 0 0 o
 fn is_d4(w: u32) -> bool
     ensures { λ r. ⌜ r ≡ matches rowD4 w ⌝ }
 {
-    (w / BIT_23 % 512 == 0b110000011)
-        & (w / BIT_21 % 2 == 1)
-        & (w / BIT_15 % 8 == 0b010)
-        & (w / BIT_10 % 8 == 0b000)
+    (w / BIT_1 % 4 == 0b00)
         & (w / BIT_5 % 4 == 0b00)
-        & (w / BIT_1 % 4 == 0b00)
+        & (w / BIT_10 % 8 == 0b000)
+        & (w / BIT_15 % 8 == 0b010)
+        & (w / BIT_21 % 2 == 1)
+        & (w / BIT_23 % 512 == 0b110000011)
 }
 
 // 110000011 1 1 mmmm 0 0 vv 010 nnnn 0 U S 0 oo
 fn is_e2(w: u32) -> bool
     ensures { λ r. ⌜ r ≡ matches rowE2 w ⌝ }
 {
-    (w / BIT_21 % 2048 == 0b11000001111)
-        & (w / BIT_15 % 4 == 0b00)
-        & (w / BIT_10 % 8 == 0b010)
+    (w / BIT_2 % 2 == 0)
         & (w / BIT_5 % 2 == 0)
-        & (w / BIT_2 % 2 == 0)
+        & (w / BIT_10 % 8 == 0b010)
+        & (w / BIT_15 % 4 == 0b00)
+        & (w / BIT_21 % 2048 == 0b11000001111)
 }
 
 // 110000011 1 1 mmm 0 1 0 vv 010 nnn 0 0 U S 0 oo
 fn is_e4(w: u32) -> bool
     ensures { λ r. ⌜ r ≡ matches rowE4 w ⌝ }
 {
-    (w / BIT_21 % 2048 == 0b11000001111)
-        & (w / BIT_15 % 8 == 0b010)
-        & (w / BIT_10 % 8 == 0b010)
+    (w / BIT_2 % 2 == 0)
         & (w / BIT_5 % 4 == 0b00)
-        & (w / BIT_2 % 2 == 0)
+        & (w / BIT_10 % 8 == 0b010)
+        & (w / BIT_15 % 8 == 0b010)
+        & (w / BIT_21 % 2048 == 0b11000001111)
 }
 
 fn by_element_fields(w: u32, lane: u32, index: u32, second: u32) -> Fields
-    ensures { λ r. ⌜ r ≡ byElement w lane index second ⌝ }
+    ensures { λ r. ⌜ r ≡ byElement (value rowA w) lane index second ⌝ }
 {
     Fields {
         family: Family::ByElement,
@@ -185,7 +186,7 @@ fn by_element_fields(w: u32, lane: u32, index: u32, second: u32) -> Fields
         lane: lane,
         part: w / BIT_30 % 2,
         index: index,
-        destination: w % 32,
+        destination: w / BIT_0 % 32,
         first: w / BIT_5 % 32,
         second: second,
         group: 1,
@@ -195,7 +196,7 @@ fn by_element_fields(w: u32, lane: u32, index: u32, second: u32) -> Fields
 }
 
 pub fn fields_a16(w: u32) -> Fields
-    ensures { λ r. ⌜ r ≡ fieldsA16 w ⌝ }
+    ensures { λ r. ⌜ r ≡ fieldsA16 (value rowA w) ⌝ }
 {
     by_element_fields(
         w,
@@ -206,7 +207,7 @@ pub fn fields_a16(w: u32) -> Fields
 }
 
 pub fn fields_a32(w: u32) -> Fields
-    ensures { λ r. ⌜ r ≡ fieldsA32 w ⌝ }
+    ensures { λ r. ⌜ r ≡ fieldsA32 (value rowA w) ⌝ }
 {
     by_element_fields(
         w,
@@ -231,7 +232,7 @@ fn lane_b(size: u32) -> u32
 }
 
 pub fn fields_b(w: u32, lane: u32) -> Fields
-    ensures { λ r. ⌜ r ≡ vector w lane ⌝ }
+    ensures { λ r. ⌜ r ≡ byVector (value rowB w) lane ⌝ }
 {
     Fields {
         family: Family::Vector,
@@ -240,7 +241,7 @@ pub fn fields_b(w: u32, lane: u32) -> Fields
         lane: lane,
         part: w / BIT_30 % 2,
         index: 0,
-        destination: w % 32,
+        destination: w / BIT_0 % 32,
         first: w / BIT_5 % 32,
         second: w / BIT_16 % 32,
         group: 1,
@@ -250,7 +251,7 @@ pub fn fields_b(w: u32, lane: u32) -> Fields
 }
 
 fn saturating_fields(w: u32, lane: u32, index: u32, second: u32) -> Fields
-    ensures { λ r. ⌜ r ≡ saturating rowC16 w lane index second ⌝ }
+    ensures { λ r. ⌜ r ≡ saturating (value rowC16 w) lane index second ⌝ }
 {
     Fields {
         family: Family::Saturating,
@@ -259,7 +260,7 @@ fn saturating_fields(w: u32, lane: u32, index: u32, second: u32) -> Fields
         lane: lane,
         part: w / BIT_10 % 2,
         index: index,
-        destination: w % 32,
+        destination: w / BIT_0 % 32,
         first: w / BIT_5 % 32,
         second: second,
         group: 1,
@@ -269,13 +270,13 @@ fn saturating_fields(w: u32, lane: u32, index: u32, second: u32) -> Fields
 }
 
 pub fn fields_c16(w: u32) -> Fields
-    ensures { λ r. ⌜ r ≡ fieldsC rowC16 16 w ⌝ }
+    ensures { λ r. ⌜ r ≡ fieldsC 16 (value rowC16 w) ⌝ }
 {
     saturating_fields(w, 16, w / BIT_19 % 4 * 2 + w / BIT_11 % 2, w / BIT_16 % 8)
 }
 
 pub fn fields_c32(w: u32) -> Fields
-    ensures { λ r. ⌜ r ≡ fieldsC rowC32 32 w ⌝ }
+    ensures { λ r. ⌜ r ≡ fieldsC 32 (value rowC32 w) ⌝ }
 {
     saturating_fields(w, 32, w / BIT_20 % 2 * 2 + w / BIT_11 % 2, w / BIT_16 % 16)
 }
@@ -290,7 +291,7 @@ fn za_fields(
     group: u32,
     offset: u32,
 ) -> Fields
-    ensures { λ r. ⌜ r ≡ intoZa family rowD2 w lane first second group offset ⌝ }
+    ensures { λ r. ⌜ r ≡ intoZa family (value rowD2 w) lane first second group offset ⌝ }
 {
     Fields {
         family: family,
@@ -309,7 +310,7 @@ fn za_fields(
 }
 
 pub fn fields_d2(w: u32) -> Fields
-    ensures { λ r. ⌜ r ≡ fieldsD rowD2 2 w ⌝ }
+    ensures { λ r. ⌜ r ≡ fieldsD 2 (value rowD2 w) ⌝ }
 {
     let lane = 8 + 8 * (w / BIT_22 % 2);
     za_fields(
@@ -319,12 +320,12 @@ pub fn fields_d2(w: u32) -> Fields
         w / BIT_6 % 16 * 2,
         w / BIT_17 % 16 * 2,
         2,
-        4 * (w % 2),
+        4 * (w / BIT_0 % 2),
     )
 }
 
 pub fn fields_d4(w: u32) -> Fields
-    ensures { λ r. ⌜ r ≡ fieldsD rowD4 4 w ⌝ }
+    ensures { λ r. ⌜ r ≡ fieldsD 4 (value rowD4 w) ⌝ }
 {
     let lane = 8 + 8 * (w / BIT_22 % 2);
     za_fields(
@@ -334,12 +335,12 @@ pub fn fields_d4(w: u32) -> Fields
         w / BIT_7 % 8 * 4,
         w / BIT_18 % 8 * 4,
         4,
-        4 * (w % 2),
+        4 * (w / BIT_0 % 2),
     )
 }
 
 pub fn fields_e2(w: u32) -> Fields
-    ensures { λ r. ⌜ r ≡ fieldsE rowE2 2 w ⌝ }
+    ensures { λ r. ⌜ r ≡ fieldsE 2 (value rowE2 w) ⌝ }
 {
     za_fields(
         Family::Long,
@@ -348,12 +349,12 @@ pub fn fields_e2(w: u32) -> Fields
         w / BIT_6 % 16 * 2,
         w / BIT_17 % 16 * 2,
         2,
-        2 * (w % 4),
+        2 * (w / BIT_0 % 4),
     )
 }
 
 pub fn fields_e4(w: u32) -> Fields
-    ensures { λ r. ⌜ r ≡ fieldsE rowE4 4 w ⌝ }
+    ensures { λ r. ⌜ r ≡ fieldsE 4 (value rowE4 w) ⌝ }
 {
     za_fields(
         Family::Long,
@@ -362,7 +363,7 @@ pub fn fields_e4(w: u32) -> Fields
         w / BIT_7 % 8 * 4,
         w / BIT_18 % 8 * 4,
         4,
-        2 * (w % 4),
+        2 * (w / BIT_0 % 4),
     )
 }
 

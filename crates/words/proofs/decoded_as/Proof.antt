@@ -2,7 +2,9 @@
 use Prim.Native.Nat.{ℕ}
 use mathlib.Core.Path.{ap, _∙_}
 use borrow.Author.Needs.{needs}
-use Rattle.words.specs.Says.{vector}
+use Rattle.layouts.specs.Layout.{value}
+use Rattle.words.specs.Rows.{rowB}
+use Rattle.words.specs.Says.{byVector}
 use Rattle.words.specs.Kinds.{saysAs}
 use Rattle.words.specs.declared.Fields.{Fields}
 use Rattle.words.proofs.ByKind.{size-of-b}
@@ -86,7 +88,7 @@ returns-3 : tie.Need-returns-3
 unfolding saysAs
 returns-3 c =
     rw (c .before .before .enum-told3 .given .1)
-    (ap accepted (c .fields-b .ensures ∙ ap (vector (c .before .before .before .before .args .word)) (c .before .lane-b .ensures)))
+    (ap accepted (c .fields-b .ensures ∙ ap (byVector (value rowB (c .before .before .before .before .args .word))) (c .before .lane-b .ensures)))
 
 returns-4 : tie.Need-returns-4
 unfolding saysAs

@@ -5,8 +5,9 @@ use mathlib.Core.Path.{_≡_, refl, ap, _∙_}
 use mathlib.Core.Logic.{_⊎_, inl, inr}
 use denote.Enum.Declared.{tagOf}
 use borrow.Author.Needs.{needs}
-use Rattle.words.specs.Rows.{rowE4}
-use Rattle.words.specs.Says.{As, vector, fieldsE, describe}
+use Rattle.layouts.specs.Layout.{value}
+use Rattle.words.specs.Rows.{rowB, rowE4}
+use Rattle.words.specs.Says.{As, byVector, fieldsE, describe}
 use Rattle.words.specs.Kinds.{fieldsAs}
 use Rattle.words.specs.declared.Kind.{Kind}
 use Rattle.words.specs.declared.Kind.the-variants as kind
@@ -20,7 +21,7 @@ late (inl a) = omega arith
 late (inr a) = omega arith
 
 -- the last arm is that of E with four registers: the other kinds have their own, and `Nothing` says nothing
-last-arm : (w : ℕ) (k : Kind) → describe w ≡ As (fieldsAs k w) → (tagOf the-type k ≡ 8) ⊎ (tagOf the-type k ≡ 9) → fieldsE rowE4 4 w ≡ fieldsAs k w
+last-arm : (w : ℕ) (k : Kind) → describe w ≡ As (fieldsAs k w) → (tagOf the-type k ≡ 8) ⊎ (tagOf the-type k ≡ 9) → fieldsE 4 (value rowE4 w) ≡ fieldsAs k w
 unfolding fieldsAs
 last-arm w kind.ByElement16 e t = let l = late t in absurd (omega arith)
 last-arm w kind.ByElement32 e t = let l = late t in absurd (omega arith)
@@ -99,7 +100,7 @@ returns-2 c = rw (c .before .enum-told2 .given .1) (c .fields-a32 .ensures)
 returns-3 : tie.Need-returns-3
 unfolding fieldsAs
 returns-3 c =
-    rw (c .before .before .enum-told3 .given .1) (c .fields-b .ensures ∙ ap (vector (c .before .before .before .before .args .w)) (c .before .lane-b .ensures))
+    rw (c .before .before .enum-told3 .given .1) (c .fields-b .ensures ∙ ap (byVector (value rowB (c .before .before .before .before .args .w))) (c .before .lane-b .ensures))
 
 returns-4 : tie.Need-returns-4
 unfolding fieldsAs
