@@ -10,3 +10,4 @@ pub mod Calls
 pub mod Reading
 pub mod Lists
 pub mod Written
+pub mod Reports

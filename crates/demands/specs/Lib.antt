@@ -5,3 +5,4 @@ pub mod SweepExamples
 pub mod Calls
 pub mod Lists
 pub mod ListExamples
+pub mod Reports

@@ -62,8 +62,8 @@ decodeAnswer zero f = fields f
 decodeAnswer (suc n) f = refused (suc n)
 
 -- the fields of a word that is accepted
-abbrev pub fieldsOf : ℕ → ℕ → Fields
-fieldsOf w features = decodePaper (bench features) w .1
+abbrev pub rowFields : ℕ → ℕ → Fields
+rowFields w features = decodePaper (bench features) w .1
 
 -- register 0 has eight lanes of 16 bits
 abbrev pub lanesAnswer : Outcome → Answer
@@ -83,20 +83,20 @@ changed zero za = []
 changed (suc v) za = changed v za ++ cond (eqb (toggled (replicate 16 0) (vectorAt 16 v za)) 0) [] (v ∷ [])
 
 -- what the definitions answer
-unfoldable pub answerOf : Given → Answer
-answerOf (word w features) = decodeAnswer (decodePaper (bench features) w .0) (decodePaper (bench features) w .1)
-answerOf (onto w features x) = lanesAnswer (executePaper (bench features) w (replicate 512 x) (replicate 256 0))
-answerOf (lane w features x y a) = laneAnswer (recipeOf (fieldsOf w features .family) (fieldsOf w features) 0) a x y
-answerOf (array w features w8) = vectors (changed 16 (executePaper (benchWith features 3 w8) w (replicate 512 1) (replicate 256 0) .za))
-answerOf (share toggled written) = percent (percentOf toggled written)
+unfoldable pub rowAnswer : Given → Answer
+rowAnswer (word w features) = decodeAnswer (decodePaper (bench features) w .0) (decodePaper (bench features) w .1)
+rowAnswer (onto w features x) = lanesAnswer (executePaper (bench features) w (replicate 512 x) (replicate 256 0))
+rowAnswer (lane w features x y a) = laneAnswer (recipeOf (rowFields w features .family) (rowFields w features) 0) a x y
+rowAnswer (array w features w8) = vectors (changed 16 (executePaper (benchWith features 3 w8) w (replicate 512 1) (replicate 256 0) .za))
+rowAnswer (share toggled written) = percent (percentOf toggled written)
 
 pub record Line : Type 0 where
   pub name : String
   pub given : Given
   pub answer : Answer
 
-abbrev pub table : List Line
-table =
+abbrev pub benchRows : List Line
+benchRows =
     record { name = "P1"; given = onto 0x0E228020 1 0x01; answer = lanes (replicate 8 0x0102) 16 128 12 }
     ∷ record { name = "P2"; given = onto 0x0E22A020 1 0x01; answer = lanes (replicate 8 0x0100) 8 128 6 }
     ∷ record { name = "P3"; given = lane 0x0E228020 1 0xFF 0xFF 0; answer = onelane 0x0001 (pos 1) }
@@ -128,8 +128,8 @@ table =
     ∷ []
 
 -- the one statement: the definitions answer each row as the table does
-pub rows-hold : map (λ (l : Line). answerOf (l .given)) table ≡ map (λ (l : Line). l .answer) table
-unfolding answerOf decodePaper decodeEnabled describe enables validSettings vectorBytes arrayBytes
+pub rows-hold : map (λ (l : Line). rowAnswer (l .given)) benchRows ≡ map (λ (l : Line). l .answer) benchRows
+unfolding rowAnswer decodePaper decodeEnabled describe enables validSettings vectorBytes arrayBytes
     elementAt lowBytes vector vectorAt laid renewed SInt Int low product accumulate laneStep clamp SignedSat satStep step overBits overBytes
     newElement newBytes newRegister zAfter stride selected firstVector someBelow writesVector newVector zaAfter stepped executePaper
 rows-hold = refl

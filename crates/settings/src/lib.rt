@@ -1,7 +1,7 @@
 ghost use mathlib.Core.Path.{_≡_};
 ghost use Prim.Native.Nat.{_-_, _≤_, _<_};
 ghost use lib.ListN.{getD};
-ghost use Rattle.settings.specs.Sets.{hasFeatures, hasModes};
+ghost use Rattle.settings.specs.Sets.{hasFeatures, hasModes, namedNumbers};
 ghost use Rattle.settings.specs.Valid.{validLength, validFeatures, validModes, validSettings, vectorBytes, arrayBytes};
 ghost use Rattle.settings.specs.Refused.{refusalNumber};
 
@@ -19,11 +19,12 @@ impl Features {
 
     pub const I16I64: Features = Features(16);
 
-    // Whether each feature of `named` is among these.
+    // Whether each feature of `named` is among these. A number that is no sum of the five is contained in nothing.
     pub fn contains(self, named: Features) -> bool
         ensures { λ r. ⌜ r ≡ hasFeatures (self .0) (named .0) ⌝ }
     {
-        (named.0 % 2 <= self.0 % 2)
+        (named.0 < 32)
+            & (named.0 % 2 <= self.0 % 2)
             & (named.0 / 2 % 2 <= self.0 / 2 % 2)
             & (named.0 / 4 % 2 <= self.0 / 4 % 2)
             & (named.0 / 8 % 2 <= self.0 / 8 % 2)
@@ -39,12 +40,27 @@ impl Modes {
 
     pub const ZA: Modes = Modes(2);
 
-    // Whether each mode of `named` is among these.
+    // Whether each mode of `named` is among these. A number that is no sum of the two is contained in nothing.
     pub fn contains(self, named: Modes) -> bool
         ensures { λ r. ⌜ r ≡ hasModes (self .0) (named .0) ⌝ }
     {
-        (named.0 % 2 <= self.0 % 2) & (named.0 / 2 % 2 <= self.0 / 2 % 2)
+        (named.0 < 4) & (named.0 % 2 <= self.0 % 2) & (named.0 / 2 % 2 <= self.0 / 2 % 2)
     }
+}
+
+// The constants, handed out: no contract can name a constant, so that they are the paper's numbers is said of this function.
+pub fn named_numbers() -> [u32; 7]
+    ensures { λ r. ⌜ r ≡ namedNumbers ⌝ }
+{
+    [
+        Features::ADV_SIMD.0,
+        Features::SVE2.0,
+        Features::SME.0,
+        Features::SME2.0,
+        Features::I16I64.0,
+        Modes::SM.0,
+        Modes::ZA.0,
+    ]
 }
 
 // What holds while words are decoded and executed. `select` has W8 to W11.

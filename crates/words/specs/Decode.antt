@@ -24,8 +24,8 @@ enablesFamily features Long lane = hasFeatures features sme2
 unfoldable pub enables : ℕ → Fields → Bool
 enables features f = enablesFamily features (f .family) (f .lane)
 
--- the zeros of a refusal. No family is zero, so the first stands here as it does in the code: what tells a refusal is the number beside the
--- fields, which is never 0
+-- "A refusal returns its number and zeros". A family has to stand among them, and no family has the number 0, so the first does: beside a
+-- number that is not 0 nobody reads it. No word says these fields, since no lane is 0
 abbrev pub noFields : Fields
 noFields =
     record {
