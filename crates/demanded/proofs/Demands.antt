@@ -6,7 +6,10 @@ use Rattle.demands.proofs.Execution as execution
 use Rattle.demands.proofs.Sweep as sweep
 use Rattle.demands.proofs.SweepExamples as examples
 use Rattle.demands.proofs.Calls.{callers-see}
+use Rattle.demands.proofs.Permitted.{enabled-and-permitted}
 use Rattle.demands.proofs.Lists as lists
+use Rattle.demands.proofs.Written as written
+use Rattle.demands.proofs.Reports.{reports-are}
 use Rattle.callinglamp.proofs.Unique as unique
 use Rattle.host.proofs.Unique as c
 use Rattle.host.proofs.Theorems as host
@@ -52,6 +55,8 @@ demand-1 =
       list-in-order = refusals.list-in-order;
       list-refusals = lists.refused-with;
       list-place = lists.place-inside;
+      list-understood = written.written-is-read;
+      list-only = written.one-list;
       refused-keeps = execution.refused-keeps;
       execute-leaves = refusals.execute-leaves;
       run-leaves = refusals.run-leaves;
@@ -64,26 +69,30 @@ pub demand-2 : Demand2
 demand-2 =
     record {
       decodes-exactly = decodes-when;
+      features-and-modes = enabled-and-permitted;
       encode-after-decode = encoding.encode-after-decode;
       decode-after-encode = encoding.decode-after-encode;
+      c-fields-back = host.fields-back;
+      c-numbers-back = host.numbers-back;
       accepted-exactly = execution.accepted-exactly;
       in-a = execution.by-element-step;
       in-b = execution.vector-step;
       in-c = execution.saturating-step;
       in-d = execution.long-long-step;
       in-e = execution.long-step;
+      first-vector = execution.first-vector;
+      vectors-exact = execution.writes-exactly;
+      vectors-distinct = execution.vectors-distinct;
       z-stays = execution.z-stays;
       za-stays = execution.za-stays;
       lengths-stay = execution.lengths-kept;
       bytes-stay = execution.bytes-kept;
       toggled-exact = execution.toggled-whole;
       written-exact = execution.written-is;
+      length-is-vl = execution.length-is-vl;
       toggled-at-most-written = execution.toggled-le-written;
       written-at-most = execution.few-written;
-      length-is-vl = execution.length-is-vl;
-      first-vector = execution.first-vector;
-      vectors-distinct = execution.vectors-distinct;
-      vectors-exact = execution.writes-exactly;
+      list-runs = reports-are;
     }
 
 pub demand-3 : Demand3

@@ -5,11 +5,12 @@ use mathlib.Core.Path.{_≡_, refl, sym, ap, _∙_}
 use mathlib.Core.Bool.{true}
 use mathlib.Core.Logic.{_≢_}
 use mathlib.Core.List.{List}
-use lib.ListN.{length}
+use lib.ListN.{length, take, drop}
 use borrow.Author.Tests.{lt-leb, le-leb, eq-eqb, ne-eqb}
 use Rattle.laws.proofs.Tests.{failed}
 use Rattle.settings.specs.Valid.{validSettings}
 use Rattle.settings.specs.Refused.{refusalNumber}
+use Rattle.settings.specs.declared.Refusal.the-variants.{BadSettings, BadLength, ListEnds, TooManyWords, ExtraBytes}
 use Rattle.settings.specs.declared.Settings.{Settings}
 use Rattle.settings.proofs.Refusals.{not-0}
 use Rattle.words.specs.Says.{Described, As, Nothing, describe}
@@ -21,11 +22,13 @@ use Rattle.words.proofs.Answers.{decodes-when, partner-not-valid}
 use Rattle.encoding.specs.Encode.{Encodes, bad-settings, no-word, not-enabled}
 use Rattle.encoding.proofs.Theorems.{encodes-unique}
 use Rattle.machine.specs.Execute.{Outcome}
-use Rattle.runlist.specs.Plan.{mostWords, zLength, settingsOf, wordsFrom, zFrom, settledFrom, planOf}
-use Rattle.runlist.specs.RunList.{Ended, runPaper}
+use Rattle.numbers.specs.declared.Read.{Read}
+use Rattle.numbers.specs.declared.Read.the-variants.{Number}
+use Rattle.runlist.specs.Plan.{Lent, lengthsOf, Found, refused, Asked, mostWords, zLength, settingsOf, asking, afterCount, wordsFrom, zFrom, settledFrom, planOf}
+use Rattle.runlist.specs.RunList.{Ended, carriedOut, runPaper}
 use Rattle.demands.proofs.Execution as execution
 use Rattle.demands.proofs.Lists as lists
-use Rattle.demanded.specs.Refusals.{DecodeInOrder, EncodeInOrder, PartnerInOrder, ListInOrder, ExecuteLeaves, RunLeaves}
+use Rattle.demanded.specs.Refusals.{DecodeInOrder, EncodeInOrder, PartnerInOrder, LengthsRight, CountKnown, ListInOrder, ExecuteLeaves, RunLeaves}
 
 -- ---- decode
 
@@ -66,20 +69,51 @@ partner-in-order s w =
 -- ---- lists
 
 module _ (list z za report : List ℕ) where
+  abbrev lent : Lent
+  lent = lengthsOf z za report
+
+  -- where a list leads by what it asks for
+  leads : (x : Found Asked) → planOf list lent ≡ x → runPaper list z za report ≡ carriedOut x z za report
+  unfolding runPaper
+  leads x e = ap (λ (x : Found Asked). carriedOut x z za report) e
+
+  module _ (head : List ℕ) (at : ℕ) where
+    abbrev settings : Settings
+    settings = settingsOf head
+
+    abbrev behind : ℕ
+    behind = at + zLength settings
+
+    -- the Z bytes come after the settings and the lengths
+    at-z : LengthsRight list z za head at → planOf list lent ≡ zFrom list lent settings at
+    unfolding planOf settledFrom
+    at-z t = rw (t .front, t .valid, t .exact)
+
+    z-there : behind ≤ length list → zFrom list lent settings at ≡ asking settings (take (zLength settings) (drop at list)) (wordsFrom list lent behind)
+    unfolding zFrom
+    z-there h = rw (le-leb behind (length list) h)
+
+    -- and the words after the count
+    at-words : (n from : ℕ) → CountKnown list z za head at n from
+        → planOf list lent ≡ asking settings (take (zLength settings) (drop at list)) (afterCount list lent behind (Number n from))
+    unfolding wordsFrom
+    at-words n from c =
+        at-z (c .lengths) ∙ z-there (c .z-there) ∙ ap (λ (x : Read). asking settings (take (zLength settings) (drop at list)) (afterCount list lent behind x)) (c .count)
+
   pub list-in-order : ListInOrder list z za report
-  unfolding runPaper planOf settledFrom zFrom wordsFrom
+  unfolding planOf settledFrom zFrom wordsFrom
   list-in-order =
       record {
-        in-front = λ vs r p e. rw e;
-        by-settings = λ head at e v. rw (e, v);
-        by-lengths = λ head at e v l. rw (e, v, l);
-        in-z = λ head at t h. rw (t .front, t .valid, t .exact, lt-leb (at + zLength (settingsOf head)) (length list) h);
-        in-count = λ head at t h r p e. rw (t .front, t .valid, t .exact, le-leb (at + zLength (settingsOf head)) (length list) h, e);
-        by-count = λ head at n from c h. rw (c .lengths .front, c .lengths .valid, c .lengths .exact, le-leb (at + zLength (settingsOf head)) (length list) (c .z-there), c .count, lt-leb n mostWords h);
-        by-report = λ head at n from c h k. rw (c .lengths .front, c .lengths .valid, c .lengths .exact, le-leb (at + zLength (settingsOf head)) (length list) (c .z-there), c .count, le-leb n mostWords h, lt-leb (3 * n) (length report) k);
-        in-words = λ head at n from c h k vs r p e. rw (c .lengths .front, c .lengths .valid, c .lengths .exact, le-leb (at + zLength (settingsOf head)) (length list) (c .z-there), c .count, le-leb n mostWords h, le-leb (3 * n) (length report) k, e);
-        by-end = λ head at n from c h k ws p e u. rw (c .lengths .front, c .lengths .valid, c .lengths .exact, le-leb (at + zLength (settingsOf head)) (length list) (c .z-there), c .count, le-leb n mostWords h, le-leb (3 * n) (length report) k, e, ne-eqb p (length list) u);
-        accepted = λ head at n from c h k ws e. rw (c .lengths .front, c .lengths .valid, c .lengths .exact, le-leb (at + zLength (settingsOf head)) (length list) (c .z-there), c .count, le-leb n mostWords h, le-leb (3 * n) (length report) k, e, eq-eqb (length list) (length list) refl);
+        in-front = λ vs r p e. leads (refused r p) (rw e);
+        by-settings = λ head at e v. leads (refused BadSettings 0) (rw (e, v));
+        by-lengths = λ head at e v l. leads (refused BadLength 0) (rw (e, v, l));
+        in-z = λ head at t h. leads (refused ListEnds at) (at-z head at t ∙ rw (lt-leb (behind head at) (length list) h));
+        in-count = λ head at t h r p e. leads (refused r p) (at-z head at t ∙ z-there head at h ∙ rw e);
+        by-count = λ head at n from c h. leads (refused TooManyWords (behind head at)) (at-words head at n from c ∙ rw (lt-leb n mostWords h));
+        by-report = λ head at n from c h k. leads (refused BadLength 0) (at-words head at n from c ∙ rw (le-leb n mostWords h, lt-leb (3 * n) (length report) k));
+        in-words = λ head at n from c h k vs r p e. leads (refused r p) (at-words head at n from c ∙ rw (le-leb n mostWords h, le-leb (3 * n) (length report) k, e));
+        by-end = λ head at n from c h k ws p e u. leads (refused ExtraBytes p) (at-words head at n from c ∙ rw (le-leb n mostWords h, le-leb (3 * n) (length report) k, e, ne-eqb p (length list) u));
+        accepted = λ head at n from c h k ws e. ap (λ (o : Ended). o .number) (leads _ (at-words head at n from c ∙ rw (le-leb n mostWords h, le-leb (3 * n) (length report) k, e, eq-eqb (length list) (length list) refl)));
       }
 
 -- ---- what a refused call leaves

@@ -8,13 +8,12 @@ use mathlib.Core.Bool.{true}
 use mathlib.Core.List.{List}
 use Rattle.settings.specs.Valid.{validSettings}
 use Rattle.settings.specs.declared.Settings.{Settings}
-use Rattle.words.specs.Says.{table}
+use Rattle.words.specs.Says.{table, SaidBy}
 use Rattle.words.specs.Decode.{enables, decodePaper}
 use Rattle.words.specs.declared.Family.the-variants.{ByElement, Vector, Saturating, LongLong, Long}
 use Rattle.words.specs.declared.Fields.{Fields}
 use Rattle.words.specs.declared.Decoded.{Decoded}
 use Rattle.words.specs.declared.Partnered.{Partnered}
-use Rattle.words.proofs.Table.{SaidBy}
 use Rattle.encoding.specs.Encode.{Encodes}
 use Rattle.encoding.specs.declared.Encoded.{Encoded}
 use Rattle.machine.specs.declared.Executed.{Executed}
@@ -24,7 +23,9 @@ use Rattle.demands.specs.Execution.{Whenever, ElementsA, ElementsB, ElementsC, 
 use Rattle.demands.specs.Sweep.{SweepCloses, UndoAccepts, PartnersAccepted}
 use Rattle.demands.specs.SweepExamples.{AllMet, EachNeeded}
 use Rattle.demands.specs.Calls.{CallersSee}
-use Rattle.demands.specs.Lists.{RefusedWith, PlaceInside}
+use Rattle.demands.specs.Permitted.{EnabledAndPermitted}
+use Rattle.demands.specs.Lists.{RefusedWith, PlaceInside, WrittenIsRead, OneList}
+use Rattle.demands.specs.Reports.{ReportsAre}
 use Rattle.callinglamp.specs.Promises.{DecodePromise, EncodePromise, PartnerPromise, ExecutePromise, PercentPromise, RunPromise}
 use Rattle.host.specs.Host.{HostDecode, HostEncode, HostPartner, HostExecute, HostPercent, HostRun}
 use Rattle.host.specs.Theorems as host
@@ -68,9 +69,12 @@ pub record Demand1 : Type 0 where
   pub execute-in-order : AlwaysInOrder
   -- the run list: "found while reading left to right, the first fault deciding"
   pub list-in-order : (list z za report : List ℕ) → ListInOrder list z za report
-  -- no other refusal is given to a list, and a place: "0 with every other refusal" than 7 to 10
+  -- no other refusal is given to a list, and its place is in the list or at its end: "0 with every other refusal" than 7 to 10
   pub list-refusals : RefusedWith
   pub list-place : PlaceInside
+  -- "In order: VL, features, modes, W8, W9, W10, W11; the Z bytes as they are; a count n; n words": a list that is written so is accepted, and no other is
+  pub list-understood : WrittenIsRead
+  pub list-only : OneList
   -- "A refusal returns its number and zeros, and every lent buffer keeps its contents"
   pub refused-keeps : Always KeepsIfRefused
   pub execute-leaves : ExecuteLeaves
@@ -86,33 +90,47 @@ pub record Demand2 : Type 0 where
   -- "a word decodes exactly when .."
   pub decodes-exactly : (s : Settings) (w : ℕ) (f : Fields) → validSettings s ≡ true
       → (decodePaper s w ≡ (0, f)) ↔ (SaidBy table w f × (enables (s .features .0) f ≡ true))
+  -- "A, B need AdvSIMD. C needs SVE2 or SME. .. Modes, tested at execution only: A, B need SM off. ..": every valid sum, in numbers
+  pub features-and-modes : EnabledAndPermitted
   -- "encoding inverts decoding", one way and the other
   pub encode-after-decode : (s : Settings) (w : ℕ) (f : Fields) (answer : ℕ × ℕ) → w < 2 ^ 32 → decodePaper s w ≡ (0, f) → Encodes s f answer → answer ≡ (0, w)
   pub decode-after-encode : (s : Settings) (w : ℕ) (f : Fields) → Encodes s f (0, w) → decodePaper s w ≡ (0, f)
-  -- a word is executed exactly when no refusal is due
+  -- in C, too: the twelve numbers of fields stand for these fields, and no other twelve do
+  pub c-fields-back : host.FieldsBack
+  pub c-numbers-back : host.NumbersBack
+  -- a word is executed exactly where no refusal is due
   pub accepted-exactly : AcceptedExactly
-  -- "What a step does", element by element
+  -- "each execution gives the registers of Arm's operation text as 01 states it". A: "the 64-bit half Q of the first source gives 64/lane elements",
+  -- each with "the one element at the index, counted over the whole second register"
   pub in-a : Whenever ByElement ElementsA
+  -- "B pairs each with the same element of half Q of the second source"
   pub in-b : Whenever Vector ElementsB
+  -- C: "the first factor is element 2e+T. With s = e − (e mod (64/lane)), the second is element 2s+index. The doubled product is clamped ..; the sum or
+  -- difference is clamped again"
   pub in-c : Whenever Saturating ElementsC
+  -- "let k be 4 in D, 2 in E .. at each element e of k·lane bits, the product of elements k·e+i of Z registers n+r and m+r, modulo 2 to the width"
   pub in-d : Whenever LongLong (ElementsZa 4)
   pub in-e : Whenever Long (ElementsZa 2)
-  -- "changes nothing else": the other bytes of Z, and the other vectors of ZA
+  -- "Stride is (VL/8)/group. The first vector is (W+offset) mod stride, rounded down to a multiple of k"
+  pub first-vector : WheneverZa (λ k s f z za o. First k s f)
+  -- "For r below group and i below k, vector first + r·stride + i of ZA": these vectors and no others, each once
+  pub vectors-exact : WheneverZa (λ k s f z za o. Exact k s f)
+  pub vectors-distinct : WheneverZa (λ k s f z za o. Distinct k s f)
+  -- "changes nothing else": the other bytes of Z, the other vectors of ZA, and the lengths; and bytes stay bytes
   pub z-stays : ZElsewhere
   pub za-stays : WheneverZa ElsewhereZa
   pub lengths-stay : Always SameLengths
   pub bytes-stay : Always StillBytes
   -- "Toggled is the number of bits that differ in Z and ZA before and after"
   pub toggled-exact : Always CountsToggled
-  -- "Written is 128 in A and B, VL in C, VL·group·4 in D, VL·group·2 in E"
+  -- "Written is 128 in A and B, VL in C, VL·group·4 in D, VL·group·2 in E"; VL is the length of a register
   pub written-exact : WrittenIs
+  pub length-is-vl : LengthIsVL
   pub toggled-at-most-written : Always AtMostWritten
   pub written-at-most : Always FewWritten
-  pub length-is-vl : LengthIsVL
-  -- "The first vector is (W+offset) mod stride, rounded down to a multiple of k. For r below group and i below k, vector first + r·stride + i of ZA"
-  pub first-vector : WheneverZa (λ k s f z za o. First k s f)
-  pub vectors-distinct : WheneverZa (λ k s f z za o. Distinct k s f)
-  pub vectors-exact : WheneverZa (λ k s f z za o. Exact k s f)
+  -- "An accepted list leaves the final Z and ZA, and three numbers for each word (refusal or 0, toggled, written) in the report, whose rest stays. A word
+  -- refused with 3 or 4 changes no register and the run goes on"
+  pub list-runs : ReportsAre
 
 -- "Words accepted in their turn, none saturating, none that writes a vector register naming its destination as a source: from the end state each
 -- word's partner, in reverse order, is accepted, every byte returns, and each partner reports its word's counts"

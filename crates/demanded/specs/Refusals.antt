@@ -11,12 +11,11 @@ use Rattle.settings.specs.Refused.{refusalNumber}
 use Rattle.settings.specs.declared.Refusal.{Refusal}
 use Rattle.settings.specs.declared.Refusal.the-variants.{BadSettings, BadLength, ListEnds, TooManyWords, ExtraBytes}
 use Rattle.settings.specs.declared.Settings.{Settings}
-use Rattle.words.specs.Says.{table}
+use Rattle.words.specs.Says.{table, SaidBy}
 use Rattle.words.specs.Decode.{enables, noFields, decodePaper}
 use Rattle.words.specs.Partner.{partnerPaper}
 use Rattle.words.specs.declared.Family.the-variants.{Saturating}
 use Rattle.words.specs.declared.Fields.{Fields}
-use Rattle.words.proofs.Table.{SaidBy}
 use Rattle.encoding.specs.Encode.{Has, Encodes}
 use Rattle.numbers.specs.Numbers.{all, fault, numberAt, numbersAt}
 use Rattle.numbers.specs.declared.Read.the-variants.{Number, Fault}

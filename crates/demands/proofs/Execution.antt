@@ -13,7 +13,7 @@ use Rattle.words.specs.declared.Family.the-variants.{ByElement, Vector, Saturat
 use Rattle.words.specs.declared.Fields.{Fields}
 use Rattle.bits.proofs.Bits.{toggled-same}
 use Rattle.recipes.specs.Recipe.{perSource}
-use Rattle.machine.specs.Execute.{Outcome, refusedWith, intoZa, stepped}
+use Rattle.machine.specs.Execute.{Outcome, refusedWith, writesZa, stepped}
 use Rattle.machine.specs.Step.{zAfter, zaAfter}
 use Rattle.machine.specs.Loop.{IntoZa}
 use Rattle.machine.proofs.Stepping.{steppedTo}
@@ -81,10 +81,10 @@ few-written s w z za = counts-small s w z za .1
 
 -- what a word of the family leaves in Z and in ZA
 abbrev leftZ : Family → Settings → Fields → List ℕ → List ℕ
-leftZ family s f z = cond (intoZa family) z (zAfter s f z)
+leftZ family s f z = cond (writesZa family) z (zAfter s f z)
 
 abbrev leftZa : Family → Settings → Fields → List ℕ → List ℕ → List ℕ
-leftZa family s f z za = cond (intoZa family) (zaAfter s f z za) za
+leftZa family s f z za = cond (writesZa family) (zaAfter s f z za) za
 
 -- what holds of the family's step holds of the outcome
 whenever : (family : Family) (P : Settings → Fields → List ℕ → List ℕ → Outcome → Type 0)

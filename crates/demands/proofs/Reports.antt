@@ -11,14 +11,14 @@ use lib.Seq.{take-length, getD-append-add, getD-drop}
 use borrow.Author.Tests.{eqb-true, eqb-false}
 use Rattle.settings.specs.declared.Settings.{Settings}
 use Rattle.settings.proofs.Refusals.{not-0}
-use Rattle.words.specs.Decode.{decodeEnabled}
+use Rattle.words.specs.Decode.{decodePaper}
 use Rattle.words.specs.declared.Fields.{Fields}
 use Rattle.machine.specs.Modes.{permits}
 use Rattle.machine.specs.Execute.{Outcome, executePaper}
 use Rattle.machine.specs.Loop.{Ready}
 use Rattle.machine.specs.Run.{Report, reportOf, Run, PerWord, runOf}
 use Rattle.machine.proofs.Executing.{is-ready, still-ready}
-use Rattle.runlist.specs.Plan.{Found, found, refused, Asked, planOf}
+use Rattle.runlist.specs.Plan.{lengthsOf, Found, found, refused, Asked, planOf}
 use Rattle.runlist.specs.RunList.{threes, carriedOut, runPaper}
 use Rattle.demands.specs.Reports.{ledTo, turnOf, threeAt, ZeroThreeFour, InTurn, AllInTurn, ReportsAre}
 use Rattle.demands.proofs.Execution.{accepted-exactly, refused-in-order, refused-keeps, lengths-kept}
@@ -69,22 +69,22 @@ three-at (r ∷ rs) rest (suc i) d h =
 -- ---- a word of an accepted list is accepted, or refused with 3 or 4
 
 module _ (s : Settings) (w : ℕ) (z za : List ℕ) (r : Ready s z za) where
-  by-mode : (f : Fields) → decodeEnabled (s .features .0) w ≡ (0, f) → (p : Bool) → permits (s .features .0) (s .modes .0) (f .family) ≡ p
+  by-mode : (f : Fields) → decodePaper s w ≡ (0, f) → (p : Bool) → permits (s .features .0) (s .modes .0) (f .family) ≡ p
       → ZeroThreeFour (executePaper s w z za .number)
   by-mode f d true p =
       inl (accepted-exactly s w z za .1 (f, record { valid = r .valid; z-exact = r .z-long; za-exact = r .za-long; decodes = d; permitted = p }))
   by-mode f d false p = inr (inr (ap (λ (o : Outcome). o .number) (refused-in-order s w z za .by-mode (r .valid) (r .z-long) (r .za-long) f d p)))
 
-  by-word : (t : Bool) → eqb (decodeEnabled (s .features .0) w .0) 0 ≡ t → ZeroThreeFour (executePaper s w z za .number)
+  by-word : (t : Bool) → eqb (decodePaper s w .0) 0 ≡ t → ZeroThreeFour (executePaper s w z za .number)
   by-word true e =
-      let d : ℕ × Fields = decodeEnabled (s .features .0) w in
+      let d : ℕ × Fields = decodePaper s w in
       by-mode (d .1) (ap (λ (n : ℕ). (n, d .1)) (eqb-true _ _ e)) (permits (s .features .0) (s .modes .0) (d .1 .family)) refl
   by-word false e =
-      let k = refused-in-order s w z za .by-word (r .valid) (r .z-long) (r .za-long) (decodeEnabled (s .features .0) w .0) refl (eqb-false _ _ e) in
+      let k = refused-in-order s w z za .by-word (r .valid) (r .z-long) (r .za-long) (decodePaper s w .0) refl (eqb-false _ _ e) in
       inr (inl (ap (λ (o : Outcome). o .number) (k .0) ∙ k .1))
 
   zero-three-four : ZeroThreeFour (executePaper s w z za .number)
-  zero-three-four = by-word (eqb (decodeEnabled (s .features .0) w .0) 0) refl
+  zero-three-four = by-word (eqb (decodePaper s w .0) 0) refl
 
 -- every word of a run finds Z and ZA of the right lengths
 ready-there : (s : Settings) (ws z za : List ℕ) (i : ℕ) → Ready s z za
@@ -147,11 +147,11 @@ module _ (a : Asked) (za report : List ℕ) (r : Ready (a .settings) (a .z) za) 
   whole : runOf (executePaper (a .settings)) (a .words) (a .z) za ≡ ledTo a za (length (a .words))
   whole = ap (λ (ws : List ℕ). runOf (executePaper (a .settings)) ws (a .z) za) (sym (take-length (a .words)))
 
-carried : (list z za report : List ℕ) (x : Found Asked) → planOf list (length z) (length za) (length report) ≡ x → carriedOut x z za report .number ≡ 0
+carried : (list z za report : List ℕ) (x : Found Asked) → planOf list (lengthsOf z za report) ≡ x → carriedOut x z za report .number ≡ 0
     → (a : Asked) × ((x ≡ found a) × AllInTurn a za report (carriedOut x z za report))
 carried list z za report (refused r p) e h = absurd (not-0 r h)
 carried list z za report (found a) e h =
-    let f = lengths-hold list (length z) (length za) (length report) a e in
+    let f = lengths-hold list (lengthsOf z za report) a e in
     let zeros : List ℕ = replicate (length za) 0 in
     let r : Ready (a .settings) (a .z) zeros =
     still-ready (a .settings) z za (a .z) zeros (is-ready (a .settings) z za (f .valid) (f .exact)) (f .z-bytes) (length-replicate (length za) 0) in (
@@ -171,4 +171,4 @@ carried list z za report (found a) e h =
 
 pub reports-are : ReportsAre
 unfolding runPaper
-reports-are list z za report = carried list z za report (planOf list (length z) (length za) (length report)) refl
+reports-are list z za report = carried list z za report (planOf list (lengthsOf z za report)) refl

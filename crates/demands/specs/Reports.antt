@@ -6,7 +6,7 @@ use mathlib.Core.List.{List}
 use lib.ListN.{length, getD, take, replicate}
 use Rattle.machine.specs.Execute.{Outcome, executePaper}
 use Rattle.machine.specs.Run.{Report, reportOf, Run, runOf}
-use Rattle.runlist.specs.Plan.{found, Asked, planOf}
+use Rattle.runlist.specs.Plan.{lengthsOf, found, Asked, planOf}
 use Rattle.runlist.specs.RunList.{Ended, runPaper}
 
 -- ---- the words of a list, each in its turn
@@ -53,4 +53,4 @@ pub record AllInTurn (a : Asked) (za report : List ℕ) (e : Ended) : Type 0 whe
 abbrev pub ReportsAre : Type 0
 ReportsAre =
     (list z za report : List ℕ) → runPaper list z za report .number ≡ 0
-    → (a : Asked) × ((planOf list (length z) (length za) (length report) ≡ found a) × AllInTurn a za report (runPaper list z za report))
+    → (a : Asked) × ((planOf list (lengthsOf z za report) ≡ found a) × AllInTurn a za report (runPaper list z za report))

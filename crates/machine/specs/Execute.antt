@@ -40,18 +40,18 @@ abbrev pub written : Settings → Fields → ℕ
 written s f = elim (f .family) [ ByElement ↦ 128 | Vector ↦ 128 | Saturating ↦ s .vl | LongLong ↦ s .vl * f .group * 4 | Long ↦ s .vl * f .group * 2 ]
 
 -- A, B and C write Z; D and E write ZA
-abbrev pub intoZa : Family → Bool
-intoZa ByElement = false
-intoZa Vector = false
-intoZa Saturating = false
-intoZa LongLong = true
-intoZa Long = true
+abbrev pub writesZa : Family → Bool
+writesZa ByElement = false
+writesZa Vector = false
+writesZa Saturating = false
+writesZa LongLong = true
+writesZa Long = true
 
 -- the step of a word: toggled is the number of bits that differ in Z and ZA before and after
 unfoldable pub stepped : Settings → Fields → List ℕ → List ℕ → Outcome
 stepped s f z za =
-    let z′ : List ℕ = cond (intoZa (f .family)) z (zAfter s f z) in
-    let za′ : List ℕ = cond (intoZa (f .family)) (zaAfter s f z za) za in
+    let z′ : List ℕ = cond (writesZa (f .family)) z (zAfter s f z) in
+    let za′ : List ℕ = cond (writesZa (f .family)) (zaAfter s f z za) za in
     record { number = 0; toggled = toggled z z′ + toggled za za′; written = written s f; z = z′; za = za′ }
 
 -- Z and ZA lengths are exact

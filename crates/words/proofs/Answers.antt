@@ -9,7 +9,7 @@ use Rattle.laws.proofs.Tests.{never-both, by-cond}
 use Rattle.settings.specs.Valid.{validSettings}
 use Rattle.settings.specs.declared.Settings.{Settings}
 use Rattle.settings.proofs.Refusals.{refused-not-0, refused-known}
-use Rattle.words.specs.Says.{Described, As, Nothing, table, describe}
+use Rattle.words.specs.Says.{Described, As, Nothing, table, describe, SaidBy}
 use Rattle.words.specs.Decode.{enables, noFields, decodedSays, enabledOnly, decodeEnabled, decodePaper}
 use Rattle.words.specs.Kinds.{fieldsAs, saysAs, familyAs, enablesSaid}
 use Rattle.words.specs.Partner.{partnerWord, turned, isC, partneredSays, partnerPaper}
@@ -22,7 +22,7 @@ use Rattle.words.specs.declared.Decoded.{Decoded}
 use Rattle.words.specs.declared.Decoded.the-variants.{Word, Refused}
 use Rattle.words.specs.declared.Partnered as partnered
 use Rattle.words.specs.declared.Partnered.the-variants.{Word as Partner, Refused as NotPartnered}
-use Rattle.words.proofs.Table.{SaidBy, described-exactly}
+use Rattle.words.proofs.Table.{described-exactly}
 use Rattle.words.proofs.ByKind.{family-as, kind-refused, kind-enabled}
 use Rattle.words.proofs.Partners.{partner-turned, partner-back, partner-sign}
 

@@ -9,13 +9,13 @@ use Rattle.laws.proofs.Lists.{each-of}
 use Rattle.laws.proofs.Bits.{xor-twice}
 use Rattle.layouts.specs.Layout.{value, flip, maskOf}
 use Rattle.layouts.proofs.Flipped.{matches-flipped}
-use Rattle.words.specs.Says.{As, table, describe}
+use Rattle.words.specs.Says.{As, table, describe, SaidBy}
 use Rattle.words.specs.Partner.{partnerWord, turned}
 use Rattle.words.specs.Sign.{signOf}
 use Rattle.words.specs.declared.Family.{Family}
 use Rattle.words.specs.declared.Family.the-variants.{ByElement, Vector, Saturating, LongLong, Long}
 use Rattle.words.specs.declared.Fields.{Fields}
-use Rattle.words.proofs.Table.{SaidBy, described-exactly, flipped-in}
+use Rattle.words.proofs.Table.{described-exactly, flipped-in}
 use Rattle.words.proofs.Turned.{Turns, flipped-reserved, flipped-fields, table-turns}
 
 sign-fits : (family : Family) → signOf family < 2 ^ 32

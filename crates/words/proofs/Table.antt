@@ -11,7 +11,7 @@ use Rattle.laws.proofs.Lists.{each-of}
 use Rattle.laws.proofs.Tests.{both, failed, by-cond}
 use Rattle.layouts.specs.Layout.{Layout, size, matches, value, flip}
 use Rattle.layouts.proofs.Apart.{apart, apartFrom, allApart, no-word-in-both}
-use Rattle.words.specs.Says.{As, Nothing, Row, table, saysOf, saysFirst, describe}
+use Rattle.words.specs.Says.{As, Nothing, Row, table, saysOf, saysFirst, describe, SaidBy}
 use Rattle.words.specs.Partner.{flipFirst, partnerWord}
 use Rattle.words.specs.declared.Fields.{Fields}
 
@@ -60,14 +60,6 @@ one-of (x ∷ rs) a r q w m n p h =
 -- no word matches two rows
 pub one-row : (r q : Row) (w : ℕ) → List·Memᴰ r table → List·Memᴰ q table → matches (r .layout) w ≡ true → matches (q .layout) w ≡ true → r ≡ q
 one-row = one-of table table-apart
-
--- a row of the list matches the word, its size is not reserved, and the row says f
-pub record SaidBy (rs : List Row) (w : ℕ) (f : Fields) : Type 0 where
-  pub row : Row
-  pub listed : List·Memᴰ row rs
-  pub matching : matches (row .layout) w ≡ true
-  pub open-size : row .reserved (value (row .layout) w) ≡ false
-  pub fields : row .fields (value (row .layout) w) ≡ f
 
 -- what a description says is one thing, and is not nothing
 found : (g f : Fields) → As g ≡ As f → g ≡ f

@@ -1,7 +1,8 @@
 -- Document 01, below the layouts: what a word of each row says, and which sizes are reserved.
 use Prim.Native.Nat.{ℕ, _+_, _*_, _^_}
-use mathlib.Core.Bool.{Bool, false, not, _||_, cond}
-use mathlib.Core.List.{List, [], _∷_, _++_}
+use mathlib.Core.Path.{_≡_}
+use mathlib.Core.Bool.{Bool, true, false, not, _||_, cond}
+use mathlib.Core.List.{List, [], _∷_, _++_, List·Memᴰ}
 use lib.Dec.{eqb}
 use Rattle.layouts.specs.Layout.{Layout, matches, Letters, value}
 use Rattle.words.specs.Rows.{rowA, rowB, rowC16, rowC32, rowD2, rowD4, rowE2, rowE4}
@@ -166,3 +167,11 @@ saysFirst (r ∷ rs) w = cond (matches (r .layout) w) (saysOf r w) (saysFirst rs
 -- the fields of a word, whatever the features
 unfoldable pub describe : ℕ → Described
 describe w = saysFirst table w
+
+-- the same with no order of the rows: a listed row matches, its size is not reserved, and it says f (`described-exactly` in proofs/Table.antt)
+pub record SaidBy (rs : List Row) (w : ℕ) (f : Fields) : Type 0 where
+  pub row : Row
+  pub listed : List·Memᴰ row rs
+  pub matching : matches (row .layout) w ≡ true
+  pub open-size : row .reserved (value (row .layout) w) ≡ false
+  pub fields : row .fields (value (row .layout) w) ≡ f
