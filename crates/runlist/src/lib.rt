@@ -152,7 +152,7 @@ pub fn read_front(list: &[u8], z: usize, za: usize, room: usize, head: &mut [u32
     ensures { λ r. ⌜ FrontRead (now (list .entry)) z za room (now (head .exit)) r ⌝ }
     ensures { λ r. ⌜ now (head .exit) ≡ filled (numbersAt (now (list .entry)) 0 7) (now (head .entry)) ⌝ }
 {
-    match numbers::read_numbers(list, 0, head) {
+    match numbers::read_seven(list, 0, head) {
         Row::Fault { refusal, place } => Front::Refused {
             refusal: refusal,
             place: place,
