@@ -6,7 +6,7 @@ use mathlib.Core.Path.{_≡_, sym, ap, ap₂, _∙_}
 use mathlib.Core.List.{List, [], _∷_, _++_, append-assoc}
 use lib.ListN.{length, drop, length-append, take-append-drop}
 use lib.Seq.{drop-drop}
-use Rattle.numbers.specs.Numbers.{numberAt, put, puts, all, joined, more, numbersAt}
+use Rattle.numbers.specs.Numbers.{numberAt, put, puts, all, followedBy, more, numbersAt}
 use Rattle.numbers.specs.Theorems.{RowReadBack, RowForm}
 use Rattle.numbers.specs.declared.Read.the-variants.{Number}
 use Rattle.numbers.proofs.Shortest.{read-shortest}
@@ -39,11 +39,11 @@ unfolding numbersAt
 row-cons list at v q zero ws p e f =
     let none : [] ≡ ws = cc in
     let here : q ≡ p = cc in
-    ap (joined []) e ∙ ap₂ (λ (x : List ℕ) (k : ℕ). all (v ∷ x) k) none here
+    ap (followedBy []) e ∙ ap₂ (λ (x : List ℕ) (k : ℕ). all (v ∷ x) k) none here
 row-cons list at v q (suc n) ws p e f =
     let l = last-of list (numbersAt list q n) ws p f in
     ap (more list) (row-cons list at v q n (l .before) (l .place) e (l .row))
-    ∙ ap (joined (v ∷ l .before)) (l .number)
+    ∙ ap (followedBy (v ∷ l .before)) (l .number)
     ∙ ap (λ (x : List ℕ). all (v ∷ x) p) (sym (l .numbers))
 
 pub row-put : RowReadBack

@@ -10,7 +10,7 @@ use lib.Seq.{drop-append-le, drop-append-seam}
 use Rattle.settings.specs.declared.Refusal.{Refusal}
 use Rattle.settings.specs.declared.Refusal.the-variants.{ListEnds, BadNumber}
 use Rattle.numbers.specs.declared.Read.the-variants.{Number, Fault}
-use Rattle.numbers.specs.Numbers.{Got, got, short, wrong, onto, numeral, placed, numberAt, put}
+use Rattle.numbers.specs.Numbers.{Got, got, short, wrong, groupThen, numeral, placed, numberAt, put}
 use Rattle.numbers.specs.Theorems.{NoFurther}
 use Rattle.numbers.proofs.Groups.{fifth-last, last-group, group-follows, Front, faulty, ends, goes-on, front}
 use Rattle.numbers.proofs.Shortest.{put-length, read-put, read-shortest, read-length, read-small}
@@ -28,13 +28,13 @@ reads-no-further k (b ∷ s) t h = go (reads-no-further (suc k) s t) (front k b)
     go ih (ends p l z) = last-group k b (s ++ t) p l z ∙ sym (last-group k b s p l z)
     go ih (goes-on p l) =
         group-follows k b (s ++ t) p l
-        ∙ ap (onto (b - 128)) (ih (λ e. h (group-follows k b s p l ∙ ap (onto (b - 128)) e)))
+        ∙ ap (groupThen (b - 128)) (ih (λ e. h (group-follows k b s p l ∙ ap (groupThen (b - 128)) e)))
         ∙ sym (group-follows k b s p l)
 
-onto-short : (g : ℕ) (x : Got) → onto g x ≡ short → x ≡ short
-onto-short g (got v n) e = let z : _≡_ {A = ℕ} 0 1 = cc in absurd (omega arith)
-onto-short g short e = refl
-onto-short g wrong e = let z : _≡_ {A = ℕ} 0 1 = cc in absurd (omega arith)
+group-short : (g : ℕ) (x : Got) → groupThen g x ≡ short → x ≡ short
+group-short g (got v n) e = let z : _≡_ {A = ℕ} 0 1 = cc in absurd (omega arith)
+group-short g short e = refl
+group-short g wrong e = let z : _≡_ {A = ℕ} 0 1 = cc in absurd (omega arith)
 
 -- five bytes are never too few
 five-bytes : (k : ℕ) (s : List ℕ) → k ≤ 4 → 5 ≤ k + length s → numeral k s ≢ short
@@ -46,7 +46,7 @@ five-bytes k (b ∷ s) few h e = go (five-bytes (suc k) s) (front k b)
     go ih (ends p l z) = let a = last-group k b s p l z in let y : _≡_ {A = ℕ} 0 1 = cc in omega arith
     go ih (goes-on p l) =
         let n = fifth-last k b p l in
-        ih (omega arith) (omega arith) (onto-short (b - 128) (numeral (suc k) s) (sym (group-follows k b s p l) ∙ e))
+        ih (omega arith) (omega arith) (group-short (b - 128) (numeral (suc k) s) (sym (group-follows k b s p l) ∙ e))
 
 -- ---- places
 

@@ -14,7 +14,7 @@ use Rattle.settings.specs.declared.Refusal.the-variants.{ListEnds, BadNumber}
 use Rattle.numbers.specs.declared.Read.{Read}
 use Rattle.numbers.specs.declared.Read.the-variants.{Number, Fault}
 use Rattle.numbers.specs.declared.Row.the-variants as row
-use Rattle.numbers.specs.Numbers.{numberAt, put, puts, Numbers, all, fault, joined, more, numbersAt, valuesOf, rowOf, filled}
+use Rattle.numbers.specs.Numbers.{numberAt, put, puts, Numbers, all, fault, followedBy, more, numbersAt, valuesOf, rowOf, filled}
 use Rattle.numbers.proofs.Shortest.{put-length}
 use Rattle.numbers.proofs.Places.{number-kept, number-far, number-within, number-fault}
 
@@ -29,7 +29,7 @@ pub record LastIs (list : List ℕ) (m : Numbers) (ws : List ℕ) (p : ℕ) : Ty
   pub number : numberAt list place ≡ Number value p
   pub numbers : ws ≡ before ++ value ∷ []
 
-last-number : (list vs : List ℕ) (q : ℕ) (r : Read) (ws : List ℕ) (p : ℕ) → numberAt list q ≡ r → joined vs r ≡ all ws p → LastIs list (all vs q) ws p
+last-number : (list vs : List ℕ) (q : ℕ) (r : Read) (ws : List ℕ) (p : ℕ) → numberAt list q ≡ r → followedBy vs r ≡ all ws p → LastIs list (all vs q) ws p
 last-number list vs q (Number w n) ws p f e =
     let last : n ≡ p = cc in
     record {
@@ -52,7 +52,7 @@ record FaultIs (list : List ℕ) (m : Numbers) (vs : List ℕ) (k : Refusal) (p 
   pub row : m ≡ all vs place
   pub number : numberAt list place ≡ Fault k p
 
-fault-number : (list us : List ℕ) (q : ℕ) (r : Read) (vs : List ℕ) (k : Refusal) (p : ℕ) → numberAt list q ≡ r → joined us r ≡ fault vs k p → FaultIs list (all us q) vs k p
+fault-number : (list us : List ℕ) (q : ℕ) (r : Read) (vs : List ℕ) (k : Refusal) (p : ℕ) → numberAt list q ≡ r → followedBy us r ≡ fault vs k p → FaultIs list (all us q) vs k p
 fault-number list us q (Number w n) vs k p f e = let z : _≡_ {A = ℕ} 0 1 = cc in absurd (omega arith)
 fault-number list us q (Fault j n) vs k p f e =
     let same : us ≡ vs = cc in
@@ -118,13 +118,13 @@ row-kept list t at zero ws p e = e
 row-kept list t at (suc n) ws p e =
     let l = last-of list (numbersAt list at n) ws p e in
     ap (more (list ++ t)) (row-kept list t at n (l .before) (l .place) (l .row))
-    ∙ ap (joined (l .before)) (number-kept list t (l .place) (l .value) p (l .number))
+    ∙ ap (followedBy (l .before)) (number-kept list t (l .place) (l .value) p (l .number))
     ∙ ap (λ (x : List ℕ). all x p) (sym (l .numbers))
 
 far-more : (list t : List ℕ) (at n : ℕ) (m : Numbers) → at + 5 * suc n ≤ length list → numbersAt list at n ≡ m → more (list ++ t) m ≡ more list m
 far-more list t at n (all ws p) h e =
     let w = row-within list at n ws p (omega arith) e in
-    ap (joined ws) (number-far list t p (omega arith))
+    ap (followedBy ws) (number-far list t p (omega arith))
 far-more list t at n (fault vs k p) h e = refl
 
 -- with five bytes left for each number, bytes after the list change nothing

@@ -11,7 +11,7 @@ use lib.Dec.{ltb}
 use lib.ListN.{length, take}
 use borrow.Author.Tests.{lt-ltb, le-ltb}
 use Rattle.laws.proofs.Tests.{cond-holds}
-use Rattle.numbers.specs.Numbers.{Got, got, short, wrong, onto, most, numeral, putIn, put}
+use Rattle.numbers.specs.Numbers.{Got, got, short, wrong, groupThen, greatestByte, numeral, putIn, put}
 use Rattle.numbers.specs.Theorems.{ReadBack, ReadShortest, ReadSmall, OneForm}
 use Rattle.numbers.proofs.Groups.{fits-fifth, fits-other, fifth-small, other-small, fifth-last, last-group, group-follows, Front, faulty, ends, goes-on, front}
 
@@ -72,7 +72,7 @@ put-read (suc f) k n t e l z = go (put-read f (suc k) (n / 128) t) (decLt n 128)
     go ih (no o) =
         rw (le-ltb n 128 (omega arith))
         (group-follows k (128 + n % 128) (putIn f (n / 128) ++ t) (fits-other k (128 + n % 128) (λ (q : k ≡ 4). omega arith) (omega arith)) (omega arith)
-        ∙ ap (onto (128 + n % 128 - 128)) (ih (omega arith) (omega (arith, pow-suc 128 f)) (λ (q : n / 128 ≡ 0). absurd (omega arith)))
+        ∙ ap (groupThen (128 + n % 128 - 128)) (ih (omega arith) (omega (arith, pow-suc 128 f)) (λ (q : n / 128 ≡ 0). absurd (omega arith)))
         ∙ ap₂ got (omega arith) refl)
 
 -- what is put is read back, whatever follows
@@ -89,11 +89,11 @@ record Whole (k f : ℕ) (s : List ℕ) (v n : ℕ) : Type 0 where
   pub small : v < 16 * 128 ^ f
   pub first : v ≡ 0 → k ≡ 0
 
-last-small : (k f b : ℕ) → k + f ≡ 4 → ltb (most k) b ≡ false → b < 128 → b < 16 * 128 ^ f
+last-small : (k f b : ℕ) → k + f ≡ 4 → ltb (greatestByte k) b ≡ false → b < 128 → b < 16 * 128 ^ f
 last-small k zero b e h l = omega (arith, fifth-small k b (omega arith) h)
 last-small k (suc f) b e h l = omega (arith, pow-suc 128 f, one-le-pow f 128 (omega arith))
 
-whole-last : (k f b : ℕ) (s : List ℕ) → k + f ≡ 4 → ltb (most k) b ≡ false → b < 128 → (b ≡ 0 → k ≡ 0) → Whole k f (b ∷ s) b 1
+whole-last : (k f b : ℕ) (s : List ℕ) → k + f ≡ 4 → ltb (greatestByte k) b ≡ false → b < 128 → (b ≡ 0 → k ≡ 0) → Whole k f (b ∷ s) b 1
 whole-last k f b s e h l z =
     record {
       taken = sym (put-last f b l);
@@ -114,18 +114,18 @@ whole-more k f b s w m h l r =
       first = λ q. omega arith;
     }
 
-module _ (k b : ℕ) (s : List ℕ) (v n : ℕ) (h : numeral k (b ∷ s) ≡ got v n) (p : ltb (most k) b ≡ false) (l : 128 ≤ b) where
+module _ (k b : ℕ) (s : List ℕ) (v n : ℕ) (h : numeral k (b ∷ s) ≡ got v n) (p : ltb (greatestByte k) b ≡ false) (l : 128 ≤ b) where
   over-rest : (f : ℕ) → k + suc f ≡ 4 → (g : Got) → numeral (suc k) s ≡ g → ((w m : ℕ) → numeral (suc k) s ≡ got w m → Whole (suc k) f s w m) → Whole k (suc f) (b ∷ s) v n
   over-rest f e (got w m) q ih =
-      let a : got (b - 128 + 128 * w) (suc m) ≡ got v n = ap (onto (b - 128)) (sym q) ∙ sym (group-follows k b s p l) ∙ h in
+      let a : got (b - 128 + 128 * w) (suc m) ≡ got v n = ap (groupThen (b - 128)) (sym q) ∙ sym (group-follows k b s p l) ∙ h in
       let x : b - 128 + 128 * w ≡ v = cc in
       let y : suc m ≡ n = cc in
       subst₂ (λ (i j : ℕ). Whole k (suc f) (b ∷ s) i j) x y (whole-more k f b s w m l (other-small k b (fifth-last k b p l) p) (ih w m q))
   over-rest f e short q ih =
-      let a : short ≡ got v n = ap (onto (b - 128)) (sym q) ∙ sym (group-follows k b s p l) ∙ h in
+      let a : short ≡ got v n = ap (groupThen (b - 128)) (sym q) ∙ sym (group-follows k b s p l) ∙ h in
       let z : _≡_ {A = ℕ} 0 1 = cc in absurd (omega arith)
   over-rest f e wrong q ih =
-      let a : wrong ≡ got v n = ap (onto (b - 128)) (sym q) ∙ sym (group-follows k b s p l) ∙ h in
+      let a : wrong ≡ got v n = ap (groupThen (b - 128)) (sym q) ∙ sym (group-follows k b s p l) ∙ h in
       let z : _≡_ {A = ℕ} 0 1 = cc in absurd (omega arith)
 
   over : (f : ℕ) → k + f ≡ 4 → ((j w m : ℕ) → suc k + j ≡ 4 → numeral (suc k) s ≡ got w m → Whole (suc k) j s w m) → Whole k f (b ∷ s) v n

@@ -1,4 +1,4 @@
--- The loop of number_at: what each turn adds, and what each way out says. Assumes nothing.
+-- The loop of read_number: what each turn adds, and what each way out says. Assumes nothing.
 use Prim.Native.Nat.{ℕ, suc, _+_, _-_, _*_, _^_, _≤_, _<_}
 use mathlib.Core.Path.{_≡_, refl, sym, ap, ap₂, _∙_}
 use mathlib.Core.Bool.{false}
@@ -12,7 +12,7 @@ use lib.ListN.{length, getD, drop, drop-of-length-le}
 use lib.Seq.{drop-cons}
 use Rattle.settings.specs.declared.Refusal.the-variants.{ListEnds, BadNumber}
 use Rattle.numbers.specs.declared.Read.the-variants.{Number, Fault}
-use Rattle.numbers.specs.Numbers.{Got, got, short, wrong, onto, most, numeral, placed, numberAt}
+use Rattle.numbers.specs.Numbers.{Got, got, short, wrong, groupThen, greatestByte, numeral, placed, numberAt}
 use Rattle.numbers.proofs.Groups.{fifth-small, fifth-last}
 
 -- what k groups, of the value v, make with what is read after them; s is 128 ^ k
@@ -46,10 +46,10 @@ start list at =
     }
 
 -- one more
-above-onto : (v s k g : ℕ) (x : Got) → above v s k (onto g x) ≡ above (v + g * s) (s * 128) (k + 1) x
-above-onto v s k g (got w n) = ap₂ got (omega (arith, mul-add s g (128 * w), mul-comm s g, mul-assoc s 128 w)) (omega arith)
-above-onto v s k g short = refl
-above-onto v s k g wrong = refl
+above-group : (v s k g : ℕ) (x : Got) → above v s k (groupThen g x) ≡ above (v + g * s) (s * 128) (k + 1) x
+above-group v s k g (got w n) = ap₂ got (omega (arith, mul-add s g (128 * w), mul-comm s g, mul-assoc s 128 w)) (omega arith)
+above-group v s k g short = refl
+above-group v s k g wrong = refl
 
 -- the byte at i is in front of the rest
 pub byte-first : (list : List ℕ) (i k : ℕ) → i < length list → numeral k (drop i list) ≡ numeral k (getD list i 0 ∷ drop (suc i) list)
@@ -69,7 +69,7 @@ pub record Follows (k s v b : ℕ) : Type 0 where
   pub sum : v + (b - 128) * s < s * 128
 
 module _ {list : List ℕ} {at i k s v : ℕ} (r : Reading list at i k s v) where
-  pub follows : (b : ℕ) → b < 256 → 128 ≤ b → ltb (most k) b ≡ false → Follows k s v b
+  pub follows : (b : ℕ) → b < 256 → 128 ≤ b → ltb (greatestByte k) b ≡ false → Follows k s v b
   follows b l h f =
       let few : k ≤ 3 = elim (decLt k 4) [ yes y ↦ omega arith | no n ↦ absurd (fifth-last k b f h (omega (arith, r .few))) ] in
       let m : (b - 128) * s ≤ 127 * s = mul-le-mul-right s (omega arith) in
@@ -80,7 +80,7 @@ module _ {list : List ℕ} {at i k s v : ℕ} (r : Reading list at i k s v) wher
       }
 
   -- what a last byte adds fits: a number is below 2 ^ 32
-  pub last-fits : (b : ℕ) → b < 128 → ltb (most k) b ≡ false → v + b * s < 4294967296
+  pub last-fits : (b : ℕ) → b < 128 → ltb (greatestByte k) b ≡ false → v + b * s < 4294967296
   last-fits b l f =
       elim (decLt k 4) [
         | yes y ↦
@@ -112,7 +112,7 @@ module _ {list : List ℕ} {at i k s v : ℕ} (r : Reading list at i k s v) wher
       ap₂ Number (omega (arith, mul-comm s b)) (omega (arith, r .place)) ∙ ap (placed at) (sym e)
 
   -- a turn
-  pub turn : (b : ℕ) → Follows k s v b → numeral k (drop i list) ≡ onto (b - 128) (numeral (suc k) (drop (suc i) list))
+  pub turn : (b : ℕ) → Follows k s v b → numeral k (drop i list) ≡ groupThen (b - 128) (numeral (suc k) (drop (suc i) list))
       → Reading list at (i + 1) (k + 1) (s * 128) (v + (b - 128) * s)
   turn b f h =
       record {
@@ -120,6 +120,6 @@ module _ {list : List ℕ} {at i k s v : ℕ} (r : Reading list at i k s v) wher
         scale = rw (add-one, pow-suc, r .scale);
         small = f .sum;
         place = omega (arith, r .place);
-        same = r .same ∙ ap (above v s k) h ∙ above-onto v s k (b - 128) (numeral (suc k) (drop (suc i) list))
+        same = r .same ∙ ap (above v s k) h ∙ above-group v s k (b - 128) (numeral (suc k) (drop (suc i) list))
             ∙ simp add-one;
       }

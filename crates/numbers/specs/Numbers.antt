@@ -3,7 +3,7 @@ use Prim.Native.Nat.{ℕ, zero, suc, _+_, _-_, _*_, _/_, _%_}
 use mathlib.Core.Bool.{_&&_, cond}
 use mathlib.Core.List.{List, [], _∷_, _++_}
 use lib.Dec.{eqb, ltb}
-use lib.ListN.{length, drop}
+use lib.ListN.{length, drop, set}
 use Rattle.settings.specs.declared.Refusal.{Refusal}
 use Rattle.settings.specs.declared.Refusal.the-variants.{ListEnds, BadNumber}
 use Rattle.numbers.specs.declared.Read.{Read}
@@ -20,23 +20,23 @@ pub data Got : Type 0 where
   wrong : Got
 
 -- a group, and what is read after it: low group first
-abbrev pub onto : ℕ → Got → Got
-onto g (got v n) = got (g + 128 * v) (suc n)
-onto g short = short
-onto g wrong = wrong
+abbrev pub groupThen : ℕ → Got → Got
+groupThen g (got v n) = got (g + 128 * v) (suc n)
+groupThen g short = short
+groupThen g wrong = wrong
 
 -- the greatest byte that may stand after k groups: the fifth is not above 15
-abbrev pub most : ℕ → ℕ
-most k = cond (eqb k 4) 15 255
+abbrev pub greatestByte : ℕ → ℕ
+greatestByte k = cond (eqb k 4) 15 255
 
 -- the rest of a number, of which k groups stand before these bytes: the last of several groups is not zero
 unfoldable pub numeral : ℕ → List ℕ → Got
 numeral k [] = short
 numeral k (b ∷ s) =
-    cond (ltb (most k) b) wrong
+    cond (ltb (greatestByte k) b) wrong
     (cond (ltb b 128)
     (cond (eqb b 0 && ltb 0 k) wrong (got b 1))
-    (onto (b - 128) (numeral (suc k) s)))
+    (groupThen (b - 128) (numeral (suc k) s)))
 
 -- the same at a place of a list: 7 where the list ends inside the number or before it, 8 where it is wrong; both at its first byte
 abbrev pub placed : ℕ → Got → Read
@@ -72,13 +72,13 @@ pub data Numbers : Type 0 where
   fault : List ℕ → Refusal → ℕ → Numbers
 
 -- the numbers so far, and what stands after them
-abbrev pub joined : List ℕ → Read → Numbers
-joined ws (Number w next) = all (ws ++ w ∷ []) next
-joined ws (Fault refusal place) = fault ws refusal place
+abbrev pub followedBy : List ℕ → Read → Numbers
+followedBy ws (Number w next) = all (ws ++ w ∷ []) next
+followedBy ws (Fault refusal place) = fault ws refusal place
 
 -- one number more: "the first fault deciding"
 abbrev pub more : List ℕ → Numbers → Numbers
-more list (all ws next) = joined ws (numberAt list next)
+more list (all ws next) = followedBy ws (numberAt list next)
 more list (fault ws refusal place) = fault ws refusal place
 
 -- so many numbers of a list, from a place on
@@ -100,3 +100,20 @@ rowOf (fault ws refusal place) = row.Fault refusal place
 unfoldable pub filled : Numbers → List ℕ → List ℕ
 unfolding valuesOf
 filled m out = valuesOf m ++ drop (length (valuesOf m)) out
+
+-- ---- a reader that is asked again and again
+
+-- where it stands after an answer at a place: behind the number, or, at a fault, where it stood
+abbrev pub placeAfter : Read → ℕ → ℕ
+placeAfter (Number value next) at = next
+placeAfter (Fault refusal place) at = at
+
+-- how a row ended, of its last answer: asked again at a fault, the reader answers the same fault
+abbrev pub endOf : Read → Row
+endOf (Number value next) = row.Next next
+endOf (Fault refusal place) = row.Fault refusal place
+
+-- an answer in its place of out: a number is stored there, and a fault leaves out as it was
+abbrev pub storedAt : Read → ℕ → List ℕ → List ℕ
+storedAt (Number value next) i out = set out i value
+storedAt (Fault refusal place) i out = out

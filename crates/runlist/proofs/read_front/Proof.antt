@@ -12,13 +12,13 @@ use Rattle.runlist.proofs.read_front.Statement.{statement}
 use Rattle.runlist.proofs.read_front.Tie as tie
 
 -- the places that the answers speak of: the entry, the numbers in front, their end
-abbrev entry : tie.After-read-numbers → tie.Start
+abbrev entry : tie.After-read-seven → tie.Start
 entry c = c .before .before .before .before
 
-abbrev list : tie.After-read-numbers → List ℕ
+abbrev list : tie.After-read-seven → List ℕ
 list c = entry c .args .list .now
 
-abbrev read : tie.After-next → tie.After-read-numbers
+abbrev read : tie.After-next → tie.After-read-seven
 read c = c .before .before .before .before
 
 abbrev ended : tie.After-settings-of → tie.After-next
@@ -26,14 +26,14 @@ ended c = c .before .before .before
 
 -- all seven numbers were read
 row-ended : (c : tie.After-next) → rowOf (numbersAt (list (read c)) 0 (length (entry (read c) .args .head .now))) ≡ Next (c .next .given .0 .0)
-row-ended c = sym (read c .read-numbers .ensures .0) ∙ c .next .given .1
+row-ended c = sym (read c .read-seven .ensures .0) ∙ c .next .given .1
 
 -- and what they leave in their room
-seven-filled : (c : tie.After-read-numbers) → c .read-numbers .last .1 .1 .0 ≡ filled (numbersAt (list c) 0 7) (entry c .args .head .now)
-seven-filled c = c .read-numbers .ensures .1 ∙ ap (λ (n : ℕ). filled (numbersAt (list c) 0 n) (entry c .args .head .now)) (entry c .pre)
+seven-filled : (c : tie.After-read-seven) → c .read-seven .last .1 .1 .0 ≡ filled (numbersAt (list c) 0 7) (entry c .args .head .now)
+seven-filled c = c .read-seven .ensures .1 ∙ ap (λ (n : ℕ). filled (numbersAt (list c) 0 n) (entry c .args .head .now)) (entry c .pre)
 
-read-numbers-requires : tie.Need-read-numbers-requires
-read-numbers-requires c κs = search needs
+read-seven-requires : tie.Need-read-seven-requires
+read-seven-requires c κs = search needs
 
 enum-known-refusal : tie.Need-enum-known-refusal
 enum-known-refusal c = search needs
@@ -55,7 +55,7 @@ same-length c = search needs
 returns : tie.Need-returns
 returns c =
     let r = c .before .before .before .before .before in
-    let e = r .read-numbers .ensures in
+    let e = r .read-seven .ensures in
     (no-head (list r) _ (entry r .args .head .now) _ (entry r .pre) (e .1) _ _ (sym (e .0) ∙ c .before .refusal .given .1), seven-filled r)
 
 same-length-2 : tie.Need-same-length-2
@@ -66,7 +66,7 @@ returns-2 c =
     let s = c .before in
     let n = ended s in
     let r = read n in (
-      headed-by (list r) _ (entry r .args .head .now) _ (entry r .pre) (r .read-numbers .ensures .1) _ _ _ (row-ended n) (s .settings-of .ensures) (c .read-rest .ensures),
+      headed-by (list r) _ (entry r .args .head .now) _ (entry r .pre) (r .read-seven .ensures .1) _ _ _ (row-ended n) (s .settings-of .ensures) (c .read-rest .ensures),
       seven-filled r,
     )
 
@@ -74,7 +74,7 @@ pub read-front-spec : {M : Type 1} → statement M
 read-front-spec =
     tie.close
     (tie.spec
-    read-numbers-requires
+    read-seven-requires
     enum-known-refusal
     enum-known-next
     settings-of-requires
