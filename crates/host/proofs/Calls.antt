@@ -19,8 +19,8 @@ use Rattle.runlist.specs.declared.RunAnswer.{RunAnswer}
 use Rattle.runlist.specs.declared.RunAnswer.the-variants as answer
 use Rattle.demands.proofs.Lists.{run-small}
 use Rattle.callinglamp.specs.Promises.{DecodePromise, EncodePromise, PartnerPromise, ExecutePromise, RunPromise}
-use Rattle.host.specs.Host.{halves, fieldsOf, decodedInto, hostDecode, HostDecode, EncodesNumbers, HostEncode, HostPartner, executedInto, hostExecute, HostExecute, ranInto, hostRun, HostRun, ExecutedPut, RanPut, Fits}
-use Rattle.host.specs.declared.FieldsOf.the-variants.{Are, Nothing}
+use Rattle.host.specs.Host.{halves, fieldsFrom, decodedInto, hostDecode, HostDecode, EncodesNumbers, HostEncode, HostPartner, executedInto, hostExecute, HostExecute, ranInto, hostRun, HostRun, ExecutedPut, RanPut, FitsHalf}
+use Rattle.host.specs.declared.GivenFields.the-variants.{Are, Nothing}
 
 module _ (settings : List ℕ) (s : Settings) (e : s ≡ settingsOf settings) where
   pub decode-said : (word : ℕ) (fields fields′ : List ℕ) (a : Decoded) (r : ℕ) → DecodePromise s word a
@@ -29,11 +29,11 @@ module _ (settings : List ℕ) (s : Settings) (e : s ≡ settingsOf settings) wh
   decode-said word fields fields′ a r p h =
       rw (← e) (h ∙ ap (λ (d : ℕ × Fields). decodedInto d fields) p)
 
-  pub encode-said : (fields : List ℕ) (f : Fields) (a : Encoded) (r : ℕ) → fieldsOf fields ≡ Are f → EncodePromise s f a
+  pub encode-said : (fields : List ℕ) (f : Fields) (a : Encoded) (r : ℕ) → fieldsFrom fields ≡ Are f → EncodePromise s f a
       → halves r ≡ encodedSays a → HostEncode settings fields r
   encode-said fields f a r g p h = rw (← e, g, h) p
 
-  pub encode-nothing : (fields : List ℕ) (r : ℕ) → fieldsOf fields ≡ Nothing → EncodesNumbers s Nothing (halves r) → HostEncode settings fields r
+  pub encode-nothing : (fields : List ℕ) (r : ℕ) → fieldsFrom fields ≡ Nothing → EncodesNumbers s Nothing (halves r) → HostEncode settings fields r
   encode-nothing fields r g p = rw (← e, g) p
 
   pub partner-said : (word : ℕ) (a : Partnered) (r : ℕ) → PartnerPromise s word a → halves r ≡ partneredSays a → HostPartner settings word r
@@ -52,7 +52,7 @@ module _ (list z za report : List ℕ) where
   run-said totals a r z′ za′ report′ totals′ p h = h z′ za′ report′ ∙ ap (λ (o : Ended). ranInto o totals) p
 
   -- the count of words and the place have 32 bits
-  pub run-fits : (a : RunAnswer) (z′ za′ report′ : List ℕ) → RunPromise list z za report a z′ za′ report′ → Fits a
+  pub run-fits : (a : RunAnswer) (z′ za′ report′ : List ℕ) → RunPromise list z za report a z′ za′ report′ → FitsHalf a
   run-fits (answer.Ran n t) z′ za′ report′ p =
       omega (arith, ap (λ (o : Ended). o .words) p, run-small list z za report .1)
   run-fits (answer.Refused x q) z′ za′ report′ p =

@@ -19,9 +19,9 @@ use Rattle.machine.specs.declared.Executed.the-variants as executed
 use Rattle.tally.specs.declared.Tally.{Tally}
 use Rattle.runlist.specs.declared.RunAnswer.{RunAnswer}
 use Rattle.runlist.specs.declared.RunAnswer.the-variants as answer
-use Rattle.host.specs.declared.FieldsOf.the-variants.{Are, Nothing}
+use Rattle.host.specs.declared.GivenFields.the-variants.{Are, Nothing}
 use Rattle.words.specs.Numbers.{familyOf}
-use Rattle.host.specs.Host.{halves, fieldNumbers, areFields, fieldsWith, fieldsOf, decodedInto, ExecutedPut, RanPut}
+use Rattle.host.specs.Host.{halves, fieldAt, fieldNumbers, areFields, fieldsWith, fieldsFrom, decodedInto, ExecutedPut, RanPut}
 use Rattle.host.specs.Theorems.{HalvesBack}
 
 -- ---- the halves
@@ -32,12 +32,12 @@ halves-back refusal value h = ap₂ (λ (a b : ℕ). (a, b)) (digits-mod value h
 -- ---- fields
 
 module _ (n : List ℕ) where
-  pub no-fields : areFields n ≡ false → Nothing ≡ fieldsOf n
-  unfolding fieldsOf
+  pub no-fields : areFields n ≡ false → Nothing ≡ fieldsFrom n
+  unfolding fieldsFrom
   no-fields e = cond-no (areFields n) _ _ _ e refl
 
-  pub some-fields : (f : Fields) → areFields n ≡ true → f ≡ fieldsWith (familyOf (getD n 0 0)) n → Are f ≡ fieldsOf n
-  unfolding fieldsOf
+  pub some-fields : (f : Fields) → areFields n ≡ true → f ≡ fieldsWith (familyOf (getD n (fieldAt .family) 0)) n → Are f ≡ fieldsFrom n
+  unfolding fieldsFrom
   some-fields f e g = cond-yes (areFields n) _ _ _ e (ap Are g)
 
 -- ---- decode

@@ -18,10 +18,10 @@ use Rattle.demands.proofs.Execution as execution
 use Rattle.demands.proofs.Lists as lists
 use Rattle.words.specs.Numbers.{familyOf}
 use Rattle.words.proofs.Numbers.{family-range, family-back, number-family, bit-range, bit-back, number-bit}
-use Rattle.host.specs.Host.{halves, fieldNumbers, areFields, fieldsWith, fieldsOf, hostDecode, HostExecuted, hostExecute, HostRan, hostRun}
+use Rattle.host.specs.Host.{halves, fieldAt, fieldNumbers, areFields, fieldsWith, fieldsFrom, hostDecode, HostExecuted, hostExecute, HostRan, hostRun}
 use Rattle.host.specs.Theorems.{AnswerBack, FieldsBack, NumbersBack, DecodeKeeps, ExecuteKeeps, RunKeeps}
-use Rattle.host.specs.declared.FieldsOf.{FieldsOf}
-use Rattle.host.specs.declared.FieldsOf.the-variants.{Are, Nothing}
+use Rattle.host.specs.declared.GivenFields.{GivenFields}
+use Rattle.host.specs.declared.GivenFields.the-variants.{Are, Nothing}
 
 -- ---- an answer
 
@@ -31,30 +31,30 @@ answer-back answer = div-add-mod' answer (2 ^ 32)
 -- ---- fields and their numbers
 
 pub fields-back : FieldsBack
-unfolding fieldsOf
+unfolding fieldsFrom
 fields-back f =
     let g = family-range (f .family) in
     rw (le-leb _ _ (g .0), le-leb _ _ (g .1), le-leb _ _ (bit-range (f .unsigned)), le-leb _ _ (bit-range (f .subtract)), family-back (f .family), bit-back (f .unsigned), bit-back (f .subtract))
 
 -- twelve numbers, of which the first three are in range
-numbers-are : (n : List ℕ) → length n ≡ 12 → areFields n ≡ true → fieldNumbers (fieldsWith (familyOf (getD n 0 0)) n) ≡ n
+numbers-are : (n : List ℕ) → length n ≡ 12 → areFields n ≡ true → fieldNumbers (fieldsWith (familyOf (getD n (fieldAt .family) 0)) n) ≡ n
 unfolding elements
 numbers-are n e t =
     let p = both _ _ t in
     let q = both _ _ (p .0) in
     let r = both _ _ (q .0) in
-    rw (number-family (getD n 0 0) (leb-true _ _ (r .0)) (leb-true _ _ (r .1)), number-bit (getD n 1 0) (leb-true _ _ (q .1)), number-bit (getD n 2 0) (leb-true _ _ (p .1)))
+    rw (number-family (getD n (fieldAt .family) 0) (leb-true _ _ (r .0)) (leb-true _ _ (r .1)), number-bit (getD n (fieldAt .unsigned) 0) (leb-true _ _ (q .1)), number-bit (getD n (fieldAt .subtract) 0) (leb-true _ _ (p .1)))
     (elements-are 12 0 n (sym e))
 
-are : FieldsOf → Fields → Fields
+are : GivenFields → Fields → Fields
 are (Are f) g = f
 are Nothing g = g
 
 pub numbers-back : NumbersBack
-unfolding fieldsOf are
+unfolding fieldsFrom are
 numbers-back n f e =
-    by-cond (areFields n) (Are (fieldsWith (familyOf (getD n 0 0)) n)) Nothing (Are f)
-    (λ t g. ap fieldNumbers (sym (ap (λ (x : FieldsOf). are x f) g)) ∙ numbers-are n e t)
+    by-cond (areFields n) (Are (fieldsWith (familyOf (getD n (fieldAt .family) 0)) n)) Nothing (Are f)
+    (λ t g. ap fieldNumbers (sym (ap (λ (x : GivenFields). are x f) g)) ∙ numbers-are n e t)
     (λ _ g. let z : _≡_ {A = ℕ} 0 1 = cc in absurd (omega arith))
 
 -- ---- a refused call writes nothing

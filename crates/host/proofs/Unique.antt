@@ -6,14 +6,14 @@ use mathlib.Core.List.{List}
 use Rattle.settings.specs.declared.Settings.{Settings}
 use Rattle.encoding.proofs.Theorems.{encodes-unique}
 use Rattle.runlist.specs.Plan.{settingsOf}
-use Rattle.host.specs.Host.{answerOf, halves, fieldsOf, HostDecode, EncodesNumbers, HostEncode, HostPartner, HostExecuted, HostExecute, HostPercent, HostRan, HostRun}
-use Rattle.host.specs.declared.FieldsOf.{FieldsOf}
-use Rattle.host.specs.declared.FieldsOf.the-variants.{Are, Nothing}
+use Rattle.host.specs.Host.{ofHalves, halves, fieldsFrom, HostDecode, EncodesNumbers, HostEncode, HostPartner, HostExecuted, HostExecute, HostPercent, HostRan, HostRun}
+use Rattle.host.specs.declared.GivenFields.{GivenFields}
+use Rattle.host.specs.declared.GivenFields.the-variants.{Are, Nothing}
 use Rattle.host.proofs.Theorems.{answer-back}
 
 -- an answer is known by its halves
 halves-known : (r q : ℕ) → halves r ≡ halves q → r ≡ q
-halves-known r q e = sym (answer-back r) ∙ ap (λ (h : ℕ × ℕ). answerOf (h .0) (h .1)) e ∙ answer-back q
+halves-known r q e = sym (answer-back r) ∙ ap (λ (h : ℕ × ℕ). ofHalves (h .0) (h .1)) e ∙ answer-back q
 
 pub decode-unique : (settings : List ℕ) (word : ℕ) (fields : List ℕ) (r q : ℕ) (fields1 fields2 : List ℕ)
     → HostDecode settings word fields r fields1 → HostDecode settings word fields q fields2
@@ -22,12 +22,12 @@ decode-unique settings word fields r q fields1 fields2 e g =
     let same = e ∙ sym g in
     (halves-known r q (ap (λ (x : (ℕ × ℕ) × List ℕ). x .0) same), ap (λ (x : (ℕ × ℕ) × List ℕ). x .1) same)
 
-numbers-encoded : (s : Settings) (f : FieldsOf) (a b : ℕ × ℕ) → EncodesNumbers s f a → EncodesNumbers s f b → a ≡ b
+numbers-encoded : (s : Settings) (f : GivenFields) (a b : ℕ × ℕ) → EncodesNumbers s f a → EncodesNumbers s f b → a ≡ b
 numbers-encoded s (Are f) a b p q = encodes-unique s f a b p q
 numbers-encoded s Nothing a b p q = p ∙ sym q
 
 pub encode-unique : (settings fields : List ℕ) (r q : ℕ) → HostEncode settings fields r → HostEncode settings fields q → r ≡ q
-encode-unique settings fields r q e g = halves-known r q (numbers-encoded (settingsOf settings) (fieldsOf fields) (halves r) (halves q) e g)
+encode-unique settings fields r q e g = halves-known r q (numbers-encoded (settingsOf settings) (fieldsFrom fields) (halves r) (halves q) e g)
 
 pub partner-unique : (settings : List ℕ) (word r q : ℕ) → HostPartner settings word r → HostPartner settings word q → r ≡ q
 partner-unique settings word r q e g = halves-known r q (e ∙ sym g)

@@ -10,7 +10,7 @@ use Rattle.words.specs.Partner.{partnerWord, partnerPaper}
 use Rattle.numbers.specs.Numbers.{numeral, numberAt, numbersAt}
 use Rattle.runlist.specs.Plan.{settingsOf, planOf}
 use Rattle.runlist.specs.RunList.{runPaper}
-use Rattle.host.specs.Host.{answerOf, halves, fieldsOf, hostDecode, HostEncode, HostPartner, hostRun}
+use Rattle.host.specs.Host.{ofHalves, halves, fieldsFrom, hostDecode, HostEncode, HostPartner, hostRun}
 
 -- VL 128, modes 0 and W8 to W11 0
 abbrev settings : ℕ → List ℕ
@@ -42,30 +42,30 @@ unfolding hostDecode settingsOf decodePaper validSettings
 bad-settings = refl
 
 -- no family has the number 0, nor 6; unsigned is 0 or 1
-family-0 : HostEncode (settings 1) (0 ∷ 1 ∷ 1 ∷ 16 ∷ 0 ∷ 7 ∷ 0 ∷ 1 ∷ 2 ∷ 1 ∷ 0 ∷ 0 ∷ []) (answerOf 5 0)
-unfolding fieldsOf settingsOf validSettings
+family-0 : HostEncode (settings 1) (0 ∷ 1 ∷ 1 ∷ 16 ∷ 0 ∷ 7 ∷ 0 ∷ 1 ∷ 2 ∷ 1 ∷ 0 ∷ 0 ∷ []) (ofHalves 5 0)
+unfolding fieldsFrom settingsOf validSettings
 family-0 = refl
 
-family-6 : HostEncode (settings 1) (6 ∷ 1 ∷ 1 ∷ 16 ∷ 0 ∷ 7 ∷ 0 ∷ 1 ∷ 2 ∷ 1 ∷ 0 ∷ 0 ∷ []) (answerOf 5 0)
-unfolding fieldsOf settingsOf validSettings
+family-6 : HostEncode (settings 1) (6 ∷ 1 ∷ 1 ∷ 16 ∷ 0 ∷ 7 ∷ 0 ∷ 1 ∷ 2 ∷ 1 ∷ 0 ∷ 0 ∷ []) (ofHalves 5 0)
+unfolding fieldsFrom settingsOf validSettings
 family-6 = refl
 
-unsigned-2 : HostEncode (settings 1) (1 ∷ 2 ∷ 1 ∷ 16 ∷ 0 ∷ 7 ∷ 0 ∷ 1 ∷ 2 ∷ 1 ∷ 0 ∷ 0 ∷ []) (answerOf 5 0)
-unfolding fieldsOf settingsOf validSettings
+unsigned-2 : HostEncode (settings 1) (1 ∷ 2 ∷ 1 ∷ 16 ∷ 0 ∷ 7 ∷ 0 ∷ 1 ∷ 2 ∷ 1 ∷ 0 ∷ 0 ∷ []) (ofHalves 5 0)
+unfolding fieldsFrom settingsOf validSettings
 unsigned-2 = refl
 
 -- 1 before 5: features 2 and 8 alone, SME2 without SME
-family-0-badly : HostEncode (settings 10) (0 ∷ 1 ∷ 1 ∷ 16 ∷ 0 ∷ 7 ∷ 0 ∷ 1 ∷ 2 ∷ 1 ∷ 0 ∷ 0 ∷ []) (answerOf 1 0)
-unfolding fieldsOf settingsOf validSettings
+family-0-badly : HostEncode (settings 10) (0 ∷ 1 ∷ 1 ∷ 16 ∷ 0 ∷ 7 ∷ 0 ∷ 1 ∷ 2 ∷ 1 ∷ 0 ∷ 0 ∷ []) (ofHalves 1 0)
+unfolding fieldsFrom settingsOf validSettings
 family-0-badly = refl
 
 -- C1A20008 and its partner; 44BA3820 is of family C
-partners : HostPartner (settings 12) 0xC1A20008 (answerOf 0 0xC1A20000) × HostPartner (settings 2) 0x44BA3820 (answerOf 6 0)
+partners : HostPartner (settings 12) 0xC1A20008 (ofHalves 0 0xC1A20000) × HostPartner (settings 2) 0x44BA3820 (ofHalves 6 0)
 unfolding settingsOf partnerPaper partnerWord decodePaper decodeEnabled describe enables validSettings
 partners = (refl, refl)
 
 -- the two halves of an answer: a word, and the place 520 of a list that ends there
-two-halves : (halves 0x2F72682000000000 ≡ (0, 0x2F726820)) × (halves (answerOf 7 520) ≡ (7, 520))
+two-halves : (halves 0x2F72682000000000 ≡ (0, 0x2F726820)) × (halves (ofHalves 7 520) ≡ (7, 520))
 two-halves = (refl, refl)
 
 -- the empty list: 7 at 0, and nothing is written

@@ -5,7 +5,7 @@ use mathlib.Core.Path.{_≡_}
 use mathlib.Core.Bool.{Bool, _&&_, cond}
 use mathlib.Core.List.{List, [], _∷_}
 use lib.Dec.{eqb, leb}
-use lib.ListN.{getD}
+use lib.ListN.{getD, set, replicate}
 use Rattle.settings.specs.Valid.{validSettings}
 use Rattle.settings.specs.declared.Settings.{Settings}
 use Rattle.words.specs.Numbers.{familyNumber, familyOf, bitOf}
@@ -22,14 +22,14 @@ use Rattle.runlist.specs.Plan.{settingsOf}
 use Rattle.runlist.specs.RunList.{Ended, runSays, runPaper}
 use Rattle.runlist.specs.declared.RunAnswer.{RunAnswer}
 use Rattle.runlist.specs.declared.RunAnswer.the-variants as answer
-use Rattle.host.specs.declared.FieldsOf.{FieldsOf}
-use Rattle.host.specs.declared.FieldsOf.the-variants.{Are, Nothing}
+use Rattle.host.specs.declared.GivenFields.{GivenFields}
+use Rattle.host.specs.declared.GivenFields.the-variants.{Are, Nothing}
 
 -- ---- an answer is one number of 64 bits
 
 -- the refusal number (0: accepted) in the low half, and in the high half what the call gives beside it
-abbrev pub answerOf : ℕ → ℕ → ℕ
-answerOf refusal value = value * 2 ^ 32 + refusal
+abbrev pub ofHalves : ℕ → ℕ → ℕ
+ofHalves refusal value = value * 2 ^ 32 + refusal
 
 -- what is read from it
 abbrev pub halves : ℕ → ℕ × ℕ
@@ -37,38 +37,90 @@ halves answer = (answer % 2 ^ 32, answer / 2 ^ 32)
 
 -- ---- fields are twelve numbers
 
+-- the place of each
+pub record FieldPlaces : Type 0 where
+  pub family : ℕ
+  pub unsigned : ℕ
+  pub subtract : ℕ
+  pub lane : ℕ
+  pub part : ℕ
+  pub index : ℕ
+  pub destination : ℕ
+  pub first : ℕ
+  pub second : ℕ
+  pub group : ℕ
+  pub select : ℕ
+  pub offset : ℕ
+
+-- as include/callinglamp.h names them
+abbrev pub fieldAt : FieldPlaces
+fieldAt =
+    record {
+      family = 0;
+      unsigned = 1;
+      subtract = 2;
+      lane = 3;
+      part = 4;
+      index = 5;
+      destination = 6;
+      first = 7;
+      second = 8;
+      group = 9;
+      select = 10;
+      offset = 11;
+    }
+
+-- twelve numbers, each put at its place
+abbrev pub placed : List (ℕ × ℕ) → List ℕ
+placed [] = replicate 12 0
+placed (p ∷ ps) = set (placed ps) (p .0) (p .1)
+
 abbrev pub fieldNumbers : Fields → List ℕ
 fieldNumbers f =
-    familyNumber (f .family) ∷ bitOf (f .unsigned) ∷ bitOf (f .subtract) ∷ f .lane ∷ f .part ∷ f .index
-    ∷ f .destination ∷ f .first ∷ f .second ∷ f .group ∷ f .select ∷ f .offset ∷ []
+    placed
+    ((fieldAt .family, familyNumber (f .family))
+    ∷ (fieldAt .unsigned, bitOf (f .unsigned))
+    ∷ (fieldAt .subtract, bitOf (f .subtract))
+    ∷ (fieldAt .lane, f .lane)
+    ∷ (fieldAt .part, f .part)
+    ∷ (fieldAt .index, f .index)
+    ∷ (fieldAt .destination, f .destination)
+    ∷ (fieldAt .first, f .first)
+    ∷ (fieldAt .second, f .second)
+    ∷ (fieldAt .group, f .group)
+    ∷ (fieldAt .select, f .select)
+    ∷ (fieldAt .offset, f .offset)
+    ∷ [])
 
--- whether there are fields of which these are the numbers
+-- whether there are fields of which these are the numbers. No family has the number 0
 abbrev pub areFields : List ℕ → Bool
-areFields n = leb 1 (getD n 0 0) && leb (getD n 0 0) 5 && leb (getD n 1 0) 1 && leb (getD n 2 0) 1
+areFields n = leb 1 (getD n (fieldAt .family) 0) && leb (getD n (fieldAt .family) 0) 5 && leb (getD n (fieldAt .unsigned) 0) 1 && leb (getD n (fieldAt .subtract) 0) 1
 
 abbrev pub fieldsWith : Family → List ℕ → Fields
 fieldsWith family n =
     record {
       family = family;
-      unsigned = isOne (getD n 1 0);
-      subtract = isOne (getD n 2 0);
-      lane = getD n 3 0;
-      part = getD n 4 0;
-      index = getD n 5 0;
-      destination = getD n 6 0;
-      first = getD n 7 0;
-      second = getD n 8 0;
-      group = getD n 9 0;
-      select = getD n 10 0;
-      offset = getD n 11 0;
+      unsigned = isOne (getD n (fieldAt .unsigned) 0);
+      subtract = isOne (getD n (fieldAt .subtract) 0);
+      lane = getD n (fieldAt .lane) 0;
+      part = getD n (fieldAt .part) 0;
+      index = getD n (fieldAt .index) 0;
+      destination = getD n (fieldAt .destination) 0;
+      first = getD n (fieldAt .first) 0;
+      second = getD n (fieldAt .second) 0;
+      group = getD n (fieldAt .group) 0;
+      select = getD n (fieldAt .select) 0;
+      offset = getD n (fieldAt .offset) 0;
     }
 
-unfoldable pub fieldsOf : List ℕ → FieldsOf
-fieldsOf n = cond (areFields n) (Are (fieldsWith (familyOf (getD n 0 0)) n)) Nothing
+-- the fields that twelve numbers stand for, where there are any
+unfoldable pub fieldsFrom : List ℕ → GivenFields
+fieldsFrom n = cond (areFields n) (Are (fieldsWith (familyOf (getD n (fieldAt .family) 0)) n)) Nothing
 
 -- ---- decode
 
--- the numbers of an accepted word's fields; a refused call writes nothing
+-- the numbers of an accepted word's fields. A refused call writes nothing: the fields that stand beside a refusal, `noFields`, have zeros and,
+-- since a family has to stand there and none has the number 0, the first family. Where the number is not 0 they are not looked at
 abbrev pub decodedInto : ℕ × Fields → List ℕ → (ℕ × ℕ) × List ℕ
 decodedInto d fields = ((d .0, 0), cond (eqb (d .0) 0) (fieldNumbers (d .1)) fields)
 
@@ -81,12 +133,12 @@ HostDecode settings word fields r fields′ = (halves r, fields′) ≡ hostDeco
 -- ---- encode
 
 -- numbers that are no fields: 5 after 1, since no word has them
-abbrev pub EncodesNumbers : Settings → FieldsOf → ℕ × ℕ → Type 0
+abbrev pub EncodesNumbers : Settings → GivenFields → ℕ × ℕ → Type 0
 EncodesNumbers s (Are f) answer = Encodes s f answer
 EncodesNumbers s Nothing answer = answer ≡ cond (validSettings s) (5, 0) (1, 0)
 
 abbrev pub HostEncode : List ℕ → List ℕ → ℕ → Type 0
-HostEncode settings fields r = EncodesNumbers (settingsOf settings) (fieldsOf fields) (halves r)
+HostEncode settings fields r = EncodesNumbers (settingsOf settings) (fieldsFrom fields) (halves r)
 
 -- ---- partner
 
@@ -159,6 +211,6 @@ RanPut answer totals r totals′ =
     → record { answer = halves r; z = z; za = za; report = report; totals = totals′ } ≡ ranInto (runSays answer z za report) totals
 
 -- the count of words and the place have 32 bits
-abbrev pub Fits : RunAnswer → Type 0
-Fits (answer.Ran n t) = n < 2 ^ 32
-Fits (answer.Refused r p) = p < 2 ^ 32
+abbrev pub FitsHalf : RunAnswer → Type 0
+FitsHalf (answer.Ran n t) = n < 2 ^ 32
+FitsHalf (answer.Refused r p) = p < 2 ^ 32

@@ -5,22 +5,22 @@ use mathlib.Core.Logic.{_≢_}
 use mathlib.Core.List.{List}
 use lib.ListN.{length}
 use Rattle.words.specs.declared.Fields.{Fields}
-use Rattle.host.specs.Host.{answerOf, halves, fieldNumbers, fieldsOf, HostDecode, HostExecute, HostRun}
-use Rattle.host.specs.declared.FieldsOf.the-variants.{Are}
+use Rattle.host.specs.Host.{ofHalves, halves, fieldNumbers, fieldsFrom, HostDecode, HostExecute, HostRun}
+use Rattle.host.specs.declared.GivenFields.the-variants.{Are}
 
 -- what is put into an answer is read from it, and nothing else is in it
 abbrev pub HalvesBack : Type 0
-HalvesBack = (refusal value : ℕ) → refusal < 2 ^ 32 → halves (answerOf refusal value) ≡ (refusal, value)
+HalvesBack = (refusal value : ℕ) → refusal < 2 ^ 32 → halves (ofHalves refusal value) ≡ (refusal, value)
 
 abbrev pub AnswerBack : Type 0
-AnswerBack = (answer : ℕ) → answerOf (halves answer .0) (halves answer .1) ≡ answer
+AnswerBack = (answer : ℕ) → ofHalves (halves answer .0) (halves answer .1) ≡ answer
 
 -- the numbers of fields stand for these fields, and twelve numbers that stand for fields are theirs
 abbrev pub FieldsBack : Type 0
-FieldsBack = (f : Fields) → fieldsOf (fieldNumbers f) ≡ Are f
+FieldsBack = (f : Fields) → fieldsFrom (fieldNumbers f) ≡ Are f
 
 abbrev pub NumbersBack : Type 0
-NumbersBack = (numbers : List ℕ) (f : Fields) → length numbers ≡ 12 → fieldsOf numbers ≡ Are f → fieldNumbers f ≡ numbers
+NumbersBack = (numbers : List ℕ) (f : Fields) → length numbers ≡ 12 → fieldsFrom numbers ≡ Are f → fieldNumbers f ≡ numbers
 
 -- "every lent buffer keeps its contents": a call that was refused has written nothing
 abbrev pub DecodeKeeps : Type 0

@@ -8,7 +8,7 @@ ghost use Rattle.words.specs.Numbers.{familyOf};
 ghost use Rattle.words.specs.Decode.{decodedSays};
 ghost use Rattle.words.specs.Partner.{partneredSays};
 ghost use Rattle.encoding.specs.Encode.{encodedSays};
-ghost use Rattle.host.specs.Host.{halves, fieldNumbers, areFields, fieldsWith, fieldsOf as fieldsPaper, decodedInto, ExecutedPut, Fits, RanPut, HostDecode, HostEncode, HostPartner, HostExecute, HostPercent, HostRun};
+ghost use Rattle.host.specs.Host.{halves, fieldNumbers, areFields, fieldsWith, fieldsFrom, decodedInto, ExecutedPut, FitsHalf, RanPut, HostDecode, HostEncode, HostPartner, HostExecute, HostPercent, HostRun};
 use callinglamp::Decoded;
 use callinglamp::Encoded;
 use callinglamp::Executed;
@@ -22,14 +22,39 @@ use callinglamp::Settings;
 // What 1 in the high half of an answer counts.
 const HIGH_HALF: u64 = 4294967296;
 
+// The places of the fields among their twelve numbers, as include/callinglamp.h names them.
+const FAMILY: usize = 0;
+
+const UNSIGNED: usize = 1;
+
+const SUBTRACT: usize = 2;
+
+const LANE: usize = 3;
+
+const PART: usize = 4;
+
+const INDEX: usize = 5;
+
+const DESTINATION: usize = 6;
+
+const FIRST: usize = 7;
+
+const SECOND: usize = 8;
+
+const GROUP: usize = 9;
+
+const SELECT: usize = 10;
+
+const OFFSET: usize = 11;
+
 // The fields that twelve numbers stand for.
-enum FieldsOf {
+enum GivenFields {
     Are(Fields),
     Nothing,
 }
 
 // The refusal number in the low half, and in the high half what the call gives beside it.
-fn answer_of(refusal: u32, value: u32) -> u64
+fn of_halves(refusal: u32, value: u32) -> u64
     ensures { λ r. ⌜ halves r ≡ (refusal, value) ⌝ }
 {
     value as u64 * HIGH_HALF + refusal as u64
@@ -38,7 +63,7 @@ fn answer_of(refusal: u32, value: u32) -> u64
 fn refused(refusal: Refusal, value: u32) -> u64
     ensures { λ r. ⌜ halves r ≡ (refusalNumber refusal, value) ⌝ }
 {
-    answer_of(settings::refusal_number(refusal), value)
+    of_halves(settings::refusal_number(refusal), value)
 }
 
 // The family of a number from 1 to 5.
@@ -54,6 +79,7 @@ fn family_of(number: u32) -> Family
     }
 }
 
+// Each field at its place.
 fn put_fields(f: Fields, numbers: &mut [u32; 12])
     ensures { λ _. ⌜ now (numbers .exit) ≡ fieldNumbers f ⌝ }
 {
@@ -77,7 +103,10 @@ fn put_fields(f: Fields, numbers: &mut [u32; 12])
 fn are_fields(numbers: &[u32; 12]) -> bool
     ensures { λ r. ⌜ r ≡ areFields (now (numbers .entry)) ⌝ }
 {
-    (1 <= numbers[0]) & (numbers[0] <= 5) & (numbers[1] <= 1) & (numbers[2] <= 1)
+    (1 <= numbers[FAMILY])
+        & (numbers[FAMILY] <= 5)
+        & (numbers[UNSIGNED] <= 1)
+        & (numbers[SUBTRACT] <= 1)
 }
 
 fn fields_with(family: Family, numbers: &[u32; 12]) -> Fields
@@ -85,27 +114,27 @@ fn fields_with(family: Family, numbers: &[u32; 12]) -> Fields
 {
     Fields {
         family: family,
-        unsigned: numbers[1] == 1,
-        subtract: numbers[2] == 1,
-        lane: numbers[3],
-        part: numbers[4],
-        index: numbers[5],
-        destination: numbers[6],
-        first: numbers[7],
-        second: numbers[8],
-        group: numbers[9],
-        select: numbers[10],
-        offset: numbers[11],
+        unsigned: numbers[UNSIGNED] == 1,
+        subtract: numbers[SUBTRACT] == 1,
+        lane: numbers[LANE],
+        part: numbers[PART],
+        index: numbers[INDEX],
+        destination: numbers[DESTINATION],
+        first: numbers[FIRST],
+        second: numbers[SECOND],
+        group: numbers[GROUP],
+        select: numbers[SELECT],
+        offset: numbers[OFFSET],
     }
 }
 
-fn fields_of(numbers: &[u32; 12]) -> FieldsOf
-    ensures { λ r. ⌜ r ≡ fieldsPaper (now (numbers .entry)) ⌝ }
+fn fields_from(numbers: &[u32; 12]) -> GivenFields
+    ensures { λ r. ⌜ r ≡ fieldsFrom (now (numbers .entry)) ⌝ }
 {
     if !are_fields(numbers) {
-        return FieldsOf::Nothing;
+        return GivenFields::Nothing;
     }
-    FieldsOf::Are(fields_with(family_of(numbers[0]), numbers))
+    GivenFields::Are(fields_with(family_of(numbers[FAMILY]), numbers))
 }
 
 // An answer, as numbers: a word's fields go into `fields`.
@@ -137,11 +166,11 @@ fn encoded(answer: Encoded) -> u64
 {
     match answer {
         Encoded::Refused(refusal) => refused(refusal, 0),
-        Encoded::Word(word) => answer_of(0, word),
+        Encoded::Word(word) => of_halves(0, word),
     }
 }
 
-// 5 after 1: no word has numbers that are no fields.
+// 5 after 1, where the numbers are no fields: no word has them. Twelve zeros are such numbers, since no family has the number 0.
 fn no_fields(settings: Settings) -> u64
     ensures { λ r. ⌜ halves r ≡ cond (validSettings settings) (5, 0) (1, 0) ⌝ }
 {
@@ -157,9 +186,9 @@ pub extern "C" fn callinglamp_encode(settings: &[u32; 7], fields: &[u32; 12]) ->
     ensures { λ r. ⌜ HostEncode (now (settings .entry)) (now (fields .entry)) r ⌝ }
 {
     let given = runlist::settings_of(settings);
-    match fields_of(fields) {
-        FieldsOf::Are(asked) => encoded(callinglamp::encode(given, asked)),
-        FieldsOf::Nothing => no_fields(given),
+    match fields_from(fields) {
+        GivenFields::Are(asked) => encoded(callinglamp::encode(given, asked)),
+        GivenFields::Nothing => no_fields(given),
     }
 }
 
@@ -168,7 +197,7 @@ fn partnered(answer: Partnered) -> u64
 {
     match answer {
         Partnered::Refused(refusal) => refused(refusal, 0),
-        Partnered::Word(word) => answer_of(0, word),
+        Partnered::Word(word) => of_halves(0, word),
     }
 }
 
@@ -218,7 +247,7 @@ pub extern "C" fn callinglamp_percent(toggled: u32, written: u32) -> u64
 }
 
 fn ran(answer: RunAnswer, totals: &mut [u32; 3]) -> u64
-    requires { ⌜ Fits answer ⌝ }
+    requires { ⌜ FitsHalf answer ⌝ }
     ensures { λ r. ⌜ RanPut answer (now (totals .entry)) r (now (totals .exit)) ⌝ }
 {
     match answer {

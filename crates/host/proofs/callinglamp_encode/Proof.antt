@@ -8,8 +8,8 @@ use Rattle.host.proofs.callinglamp_encode.Tie as tie
 settings-of-requires : tie.Need-settings-of-requires
 settings-of-requires c κs = search needs
 
-fields-of-requires : tie.Need-fields-of-requires
-fields-of-requires c κs = search needs
+fields-from-requires : tie.Need-fields-from-requires
+fields-from-requires c κs = search needs
 
 enum-known-asked : tie.Need-enum-known-asked
 enum-known-asked c = search needs
@@ -31,20 +31,20 @@ returns c =
     let e = c .before in
     let m = e .before .before in
     let f = m .before .before in
-    encode-said _ _ (f .before .settings-of .ensures) _ _ (e .encode .result) _ (sym (f .fields-of .ensures) ∙ m .asked .given .1) (e .encode .ensures) (c .encoded .ensures)
+    encode-said _ _ (f .before .settings-of .ensures) _ _ (e .encode .result) _ (sym (f .fields-from .ensures) ∙ m .asked .given .1) (e .encode .ensures) (c .encoded .ensures)
 
 returns-2 : tie.Need-returns-2
 returns-2 c =
     let m = c .before in
     let f = m .before .before in
-    encode-nothing _ _ (f .before .settings-of .ensures) _ _ (sym (f .fields-of .ensures) ∙ m .enum-told .given .1) (c .no-fields .ensures)
+    encode-nothing _ _ (f .before .settings-of .ensures) _ _ (sym (f .fields-from .ensures) ∙ m .enum-told .given .1) (c .no-fields .ensures)
 
 pub callinglamp-encode-spec : {M : Type 1} → statement M
 callinglamp-encode-spec =
     tie.close
     (tie.spec
     settings-of-requires
-    fields-of-requires
+    fields-from-requires
     enum-known-asked
     encode-requires
     encoded-requires

@@ -2,7 +2,7 @@
 use native.Mathlib.Omega.{arith}
 use mathlib.Core.Path.{subst}
 use borrow.Author.Needs.{needs}
-use Rattle.host.specs.Host.{Fits}
+use Rattle.host.specs.Host.{FitsHalf}
 use Rattle.host.proofs.Put.{ran-refused, ran-done}
 use Rattle.host.proofs.ran.Statement.{statement}
 use Rattle.host.proofs.ran.Tie as tie
@@ -11,7 +11,7 @@ enum-known-answer : tie.Need-enum-known-answer
 enum-known-answer c = search needs
 
 cast-refused : tie.Need-cast-refused
-cast-refused c = omega (arith, subst Fits (c .before .answer .given .1) (c .before .before .before .pre))
+cast-refused c = omega (arith, subst FitsHalf (c .before .answer .given .1) (c .before .before .before .pre))
 
 refused-requires : tie.Need-refused-requires
 refused-requires c κs = search needs
@@ -20,7 +20,7 @@ enum-known-answer-2 : tie.Need-enum-known-answer-2
 enum-known-answer-2 c = search needs
 
 cast-t9 : tie.Need-cast-t9
-cast-t9 c = omega (arith, subst Fits (c .before .answer2 .given .1) (c .before .before .before .pre))
+cast-t9 c = omega (arith, subst FitsHalf (c .before .answer2 .given .1) (c .before .before .before .pre))
 
 returns : tie.Need-returns
 returns c = ran-refused _ _ _ _ _ (c .before .before .answer .given .1) (c .refused .ensures)

@@ -8,11 +8,11 @@ use Rattle.host.proofs.refused.Tie as tie
 refusal-number-requires : tie.Need-refusal-number-requires
 refusal-number-requires c κs = search needs
 
-answer-of-requires : tie.Need-answer-of-requires
-answer-of-requires c κs = search needs
+of-halves-requires : tie.Need-of-halves-requires
+of-halves-requires c κs = search needs
 
 returns : tie.Need-returns
-returns c = c .answer-of .ensures ∙ ap (λ (n : ℕ). (n, c .before .before .args .value)) (c .before .refusal-number .ensures)
+returns c = c .of-halves .ensures ∙ ap (λ (n : ℕ). (n, c .before .before .args .value)) (c .before .refusal-number .ensures)
 
 pub refused-spec : {M : Type 1} → statement M
-refused-spec = tie.close (tie.spec refusal-number-requires answer-of-requires returns)
+refused-spec = tie.close (tie.spec refusal-number-requires of-halves-requires returns)

@@ -1,12 +1,12 @@
--- `host::fields_of` meets its contract. Assumes nothing.
+-- `host::fields_from` meets its contract. Assumes nothing.
 use mathlib.Core.Path.{ap, sym, _∙_}
 use borrow.Author.Needs.{needs}
 use borrow.Author.Tests.{not-true, not-false}
 use Rattle.words.specs.declared.Family.{Family}
 use Rattle.host.specs.Host.{fieldsWith}
 use Rattle.host.proofs.Put.{no-fields, some-fields}
-use Rattle.host.proofs.fields_of.Statement.{statement}
-use Rattle.host.proofs.fields_of.Tie as tie
+use Rattle.host.proofs.fields_from.Statement.{statement}
+use Rattle.host.proofs.fields_from.Tie as tie
 
 are-fields-requires : tie.Need-are-fields-requires
 are-fields-requires c κs = search needs
@@ -30,8 +30,8 @@ returns-2 c =
     some-fields _ _ (sym (e .before .are-fields .ensures) ∙ not-false _ (e .if1 .left))
     (c .fields-with .ensures ∙ ap (λ (g : Family). fieldsWith g (e .before .before .args .numbers .now)) (f .family-of .ensures))
 
-pub fields-of-spec : {M : Type 1} → statement M
-fields-of-spec =
+pub fields-from-spec : {M : Type 1} → statement M
+fields-from-spec =
     tie.close
     (tie.spec
     are-fields-requires
