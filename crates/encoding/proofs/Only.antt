@@ -8,6 +8,7 @@ use mathlib.Core.List.{List}
 use mathlib.Core.Bool.{true, false}
 use lib.Dec.{eqb}
 use borrow.Author.Tests.{eqb-true, not-false}
+use Rattle.laws.specs.Lists.{Each}
 use Rattle.laws.proofs.Bits.{one-bit}
 use Rattle.laws.proofs.Tests.{cond-holds, either, never-both}
 use Rattle.layouts.specs.Layout.{Layout, size, matches, value, build}
@@ -16,14 +17,14 @@ use Rattle.words.specs.Rows.{rowA, rowB, rowC16, rowC32, rowD2, rowD4, rowE2, r
 use Rattle.words.specs.Numbers.{bitOf}
 use Rattle.words.proofs.Numbers.{number-bit}
 use Rattle.words.proofs.Ranges.{by-size}
-use Rattle.words.specs.Says.{As, isOne, Row, entry, entryA, entryB, describe, fieldsA16, fieldsA32, fieldsB, fieldsC, fieldsD, fieldsE}
+use Rattle.words.specs.Says.{As, isOne, Row, entryA, entryB, table, describe, fieldsA16, fieldsA32, fieldsB, fieldsC, fieldsD, fieldsE}
 use Rattle.words.specs.declared.Fields.{Fields}
-use Rattle.words.proofs.Table.{WhereSaid, said-each}
+use Rattle.words.proofs.Table.{_then_, WhereSaid, said-each}
 use Rattle.encoding.specs.Candidate.{candidateOf, valuesA16, valuesA32, valuesB, valuesC16, valuesC32, valuesD, valuesE}
 
 -- a word of the row that is not reserved is the candidate of its fields
-abbrev Undone : Row → ℕ → Type 0
-Undone r w = WhereSaid (λ (g : Fields). candidateOf g ≡ w) w r
+abbrev Undone : ℕ → Row → Type 0
+Undone w r = WhereSaid (λ (g : Fields). candidateOf g ≡ w) w r
 
 -- ---- the numbers of the fields
 
@@ -50,7 +51,7 @@ module _ (w : ℕ) (lt : w < 2 ^ 32) where
   one-row l vs e m a = build-agrees l vs w m a ∙ mod-eq-of-lt (rw e lt)
 
   -- ss 01, and else ss 10
-  a-undone : Undone entryA w
+  a-undone : Undone w entryA
   a-undone m n =
       let s = value rowA w "s" in
       let unsigned = number-bit (value rowA w "U") (omega arith) in
@@ -66,24 +67,17 @@ module _ (w : ℕ) (lt : w < 2 ^ 32) where
       let second = join-second (value rowA w "M") (value rowA w "m") (omega arith) (omega arith) in
       omega arith))
 
-  b-undone : Undone entryB w
+  b-undone : Undone w entryB
   b-undone m n =
       let unsigned = number-bit (value rowB w "U") (omega arith) in
       let subtract = number-bit (value rowB w "S") (omega arith) in
       let lane = lane-b (value rowB w "s") (omega arith) n in
       one-row rowB (valuesB (fieldsB (value rowB w))) refl m (omega arith)
 
-  c16-undone : Undone (entry rowC16 (fieldsC 16)) w
-  c16-undone m _ =
-      let subtract = number-bit (value rowC16 w "S") (omega arith) in
-      one-row rowC16 (valuesC16 (fieldsC 16 (value rowC16 w))) refl m (omega arith)
+  -- S stands at the same place in both rows of C; U and S in the four rows of D and E, and z in the two of D
+  subtract-c : bitOf (isOne (value rowC16 w "S")) ≡ value rowC16 w "S"
+  subtract-c = number-bit _ (omega arith)
 
-  c32-undone : Undone (entry rowC32 (fieldsC 32)) w
-  c32-undone m _ =
-      let subtract = number-bit (value rowC32 w "S") (omega arith) in
-      one-row rowC32 (valuesC32 (fieldsC 32 (value rowC32 w))) refl m (omega arith)
-
-  -- U and S stand at the same places in the four rows of D and E, and z in the two of D
   unsigned-za : bitOf (isOne (value rowD2 w "U")) ≡ value rowD2 w "U"
   unsigned-za = number-bit _ (omega arith)
 
@@ -93,20 +87,18 @@ module _ (w : ℕ) (lt : w < 2 ^ 32) where
   lane-za : (8 + 8 * value rowD2 w "z") / 16 % 2 ≡ value rowD2 w "z"
   lane-za = lane-d _ (omega arith)
 
-  d2-undone : Undone (entry rowD2 (fieldsD 2)) w
-  d2-undone m _ = one-row rowD2 (valuesD (fieldsD 2 (value rowD2 w)) 2 16) refl m (omega (arith, unsigned-za, subtract-za, lane-za))
-
-  d4-undone : Undone (entry rowD4 (fieldsD 4)) w
-  d4-undone m _ = one-row rowD4 (valuesD (fieldsD 4 (value rowD4 w)) 4 8) refl m (omega (arith, unsigned-za, subtract-za, lane-za))
-
-  e2-undone : Undone (entry rowE2 (fieldsE 2)) w
-  e2-undone m _ = one-row rowE2 (valuesE (fieldsE 2 (value rowE2 w)) 2 16) refl m (omega (arith, unsigned-za, subtract-za))
-
-  e4-undone : Undone (entry rowE4 (fieldsE 4)) w
-  e4-undone m _ = one-row rowE4 (valuesE (fieldsE 4 (value rowE4 w)) 4 8) refl m (omega (arith, unsigned-za, subtract-za))
+  undone : Each (Undone w) table
+  undone =
+      a-undone
+      then b-undone
+      then (λ m _. one-row rowC16 (valuesC16 (fieldsC 16 (value rowC16 w))) refl m (omega (arith, subtract-c)))
+      then (λ m _. one-row rowC32 (valuesC32 (fieldsC 32 (value rowC32 w))) refl m (omega (arith, subtract-c)))
+      then (λ m _. one-row rowD2 (valuesD (fieldsD 2 (value rowD2 w)) 2 16) refl m (omega (arith, unsigned-za, subtract-za, lane-za)))
+      then (λ m _. one-row rowD4 (valuesD (fieldsD 4 (value rowD4 w)) 4 8) refl m (omega (arith, unsigned-za, subtract-za, lane-za)))
+      then (λ m _. one-row rowE2 (valuesE (fieldsE 2 (value rowE2 w)) 2 16) refl m (omega (arith, unsigned-za, subtract-za)))
+      then (λ m _. one-row rowE4 (valuesE (fieldsE 4 (value rowE4 w)) 4 8) refl m (omega (arith, unsigned-za, subtract-za)))
+      then tt
 
 -- a word with the fields f is the candidate of f
 pub only : (f : Fields) (w : ℕ) → w < 2 ^ 32 → describe w ≡ As f → candidateOf f ≡ w
-only f w lt =
-    said-each (λ (g : Fields). candidateOf g ≡ w) w f
-    (a-undone w lt, (b-undone w lt, (c16-undone w lt, (c32-undone w lt, (d2-undone w lt, (d4-undone w lt, (e2-undone w lt, (e4-undone w lt, tt))))))))
+only f w lt = said-each (λ (g : Fields). candidateOf g ≡ w) w f (undone w lt)

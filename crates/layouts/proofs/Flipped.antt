@@ -9,7 +9,7 @@ use mathlib.Core.Bool.{Bool, _&&_, cond}
 use lib.Arith.{digits-lt}
 use lib.Dec.{eqb}
 use lib.Bits.{bitXor, xor-shr, xor-mod, xor-zero-r}
-use lib.Pow.{pow-pos, pow-add, ones-lt}
+use lib.Pow.{pow-pos, pow-add, shl-shr, ones-lt}
 use borrow.Author.Tests.{eqb-true, ne-eqb}
 use Rattle.laws.proofs.Tests.{cond-holds, cond-then}
 use Rattle.layouts.specs.Layout.{Layout, Segment, bits, field, width, size, part, matches, places, join, value, ofLetter, maskOf, flip}
@@ -80,7 +80,11 @@ places-below (field k c ∷ l) a b w y n =
 pub others-kept : (l : Layout) (a b : Char) (w : ℕ) → code a ≢ code b → value l (flip l a w) b ≡ value l w b
 others-kept l a b w n = ap (λ (m : ℕ). value l (bitXor w m) b) (none-above l (code a)) ∙ ap join (places-below l (code a) (code b) w 0 n)
 
+alone : (p : ℕ) → part (2 ^ p) p 1 ≡ 1
+alone p = let e : 2 ^ p ≡ 1 * 2 ^ p = omega arith in ap (λ (n : ℕ). n / 2 ^ p % 2) e ∙ ap (λ (n : ℕ). n % 2) (shl-shr 1 p)
+
 -- a letter that stands at bit p alone has the other value
-pub one-flipped : (l : Layout) (a : Char) (p w : ℕ) → ((w : ℕ) → value l w a ≡ part w p 1) → part (maskOf l (code a)) p 1 ≡ 1
+pub one-flipped : (l : Layout) (a : Char) (p w : ℕ) → ((w : ℕ) → value l w a ≡ part w p 1) → maskOf l (code a) ≡ 2 ^ p
     → value l (flip l a w) a ≡ bitXor (value l w a) 1
-one-flipped l a p w h e = h (flip l a w) ∙ part-flip w (maskOf l (code a)) p 1 ∙ ap₂ bitXor (sym (h w)) e
+one-flipped l a p w h e =
+    h (flip l a w) ∙ part-flip w (maskOf l (code a)) p 1 ∙ ap₂ bitXor (sym (h w)) (ap (λ (m : ℕ). part m p 1) e ∙ alone p)

@@ -1,5 +1,5 @@
 -- Taking a word apart and putting it together undo one another: two laws, proved once for every layout. Assumes nothing.
-use Prim.Native.Nat.{ℕ, _+_, _*_, _/_, _%_, _^_, _<_}
+use Prim.Native.Nat.{ℕ, _+_, _*_, _%_, _^_, _<_}
 use native.Mathlib.Nat.{mod-one, mod-eq-of-lt, add-mul, mul-assoc, add-assoc}
 use native.Mathlib.Omega.{arith}
 use mathlib.Core.Path.{_≡_, refl, sym, ap, ap₂, _∙_}

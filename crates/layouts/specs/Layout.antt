@@ -71,7 +71,7 @@ abbrev pub bitsIn : List (ℕ × ℕ) → ℕ
 bitsIn [] = 0
 bitsIn (p ∷ ps) = p .0 + bitsIn ps
 
--- several places are joined, the first the most significant
+-- the number of the places: none is 0, one is its own, and several are joined, the first the most significant
 abbrev pub join : List (ℕ × ℕ) → ℕ
 join [] = 0
 join (p ∷ []) = p .1

@@ -1,8 +1,8 @@
 -- Flipping S flips `subtract` and nothing else: one law over the rows, and what it asks of each. Assumes nothing.
-use Prim.Native.Nat.{ℕ, _^_, _<_}
+use Prim.Native.Nat.{ℕ, _<_}
 use Prim.Native.Char.{Char, code}
 use native.Mathlib.Omega.{arith}
-use mathlib.Core.Path.{_≡_, refl, sym, ap, _∙_}
+use mathlib.Core.Path.{_≡_, refl, ap, _∙_}
 use mathlib.Core.Bool.{Bool, true, false, not, cond}
 use lib.Dec.{eqb}
 use lib.Bits.{bitXor}
@@ -38,20 +38,13 @@ pub record Turns (r : Row) : Type 0 where
 
 -- ---- the law
 
-sign-set : (family : Family) → part (signOf family) (signAt family) 1 ≡ 1
-sign-set ByElement = refl
-sign-set Vector = refl
-sign-set Saturating = refl
-sign-set LongLong = refl
-sign-set Long = refl
-
 other-bit : (b : ℕ) → b < 2 → bitXor b 1 ≡ bitOf (not (isOne b))
 other-bit = one-bit (λ b. bitXor b 1 ≡ bitOf (not (isOne b))) refl refl
 
 module _ (r : Row) (t : Turns r) (w : ℕ) where
   flipped-s : value (r .layout) (flip (r .layout) "S" w) "S" ≡ bitOf (not (isOne (value (r .layout) w "S")))
   flipped-s =
-      one-flipped (r .layout) "S" (signAt (t .family)) w (t .s-at) (ap (λ (m : ℕ). part m (signAt (t .family)) 1) (t .mask) ∙ sign-set (t .family))
+      one-flipped (r .layout) "S" (signAt (t .family)) w (t .s-at) (t .mask)
       ∙ other-bit (value (r .layout) w "S") (rw (t .s-at w) (omega arith))
 
   flipped-letter : (a : Char) → value (r .layout) (flip (r .layout) "S" w) a ≡ otherS (value (r .layout) w) a
