@@ -78,14 +78,14 @@ unfolding runPaper planOf settingsOf settledFrom zFrom wordsFrom numbersAt numbe
     step laneStep accumulate product SInt Int low overBits overBytes
 words-run = (refl, refl, refl)
 
-no-words : runPaper (beforeCount ++ 0x00 ∷ []) lentZ lentZa [] ≡ ranWith 0 noTally []
+no-words-run : runPaper (beforeCount ++ 0x00 ∷ []) lentZ lentZa [] ≡ ranWith 0 noTally []
 unfolding runPaper planOf settingsOf settledFrom zFrom wordsFrom numbersAt numberAt numeral runOf tallied threes validSettings vectorBytes arrayBytes
-no-words = refl
+no-words-run = refl
 
 -- a refused list: every lent buffer keeps its contents
-empty-list : runPaper [] lentZ lentZa (lentReport 2) ≡ refusedAt 7 0 lentZ lentZa (lentReport 2)
+empty-list-run : runPaper [] lentZ lentZa (lentReport 2) ≡ refusedAt 7 0 lentZ lentZa (lentReport 2)
 unfolding runPaper planOf numbersAt numberAt numeral
-empty-list = refl
+empty-list-run = refl
 
 -- Z and ZA as long as VL 128 asks for, and a report of n numbers
 abbrev pub lentWith : ℕ → Lent

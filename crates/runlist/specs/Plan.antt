@@ -1,4 +1,5 @@
--- Document 01, "The run list": what a list asks for, or why it is refused. It is read left to right, the first fault deciding.
+-- Document 01, "The run list": what a list asks for, or why it is refused, "found while reading left to right, the first fault deciding".
+-- The whole is planOf, at the end; its parts stand before it, the list's last first.
 use Prim.Native.Nat.{ℕ, _+_, _*_}
 use mathlib.Core.Bool.{Bool, cond}
 use mathlib.Core.List.{List, [], _∷_}
@@ -22,7 +23,7 @@ pub record Lent : Type 0 where
 abbrev pub lengthsOf : List ℕ → List ℕ → List ℕ → Lent
 lengthsOf z za report = record { z = length z; za = length za; report = length report }
 
--- what was found in a list, or a refusal and its place
+-- what was found in a list, or a refusal: "A refused list also gives a place"
 pub data Found (A : Type 0) : Type 0 where
   found : A → Found A
   refused : Refusal → ℕ → Found A

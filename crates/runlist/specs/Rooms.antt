@@ -28,6 +28,7 @@ wordsSay (words.Refused r p) ws = refused r p
 abbrev pub goesOn : Settings → List ℕ → ℕ → ℕ → ℕ → ℕ → Found Asked
 goesOn s list at z from n = asking s (take z (drop at list)) (endedAt list (numbersAt list from n))
 
+-- what an answer says of the list
 abbrev pub frontSays : Front → Settings → List ℕ → ℕ → Found Asked
 frontSays (front.Words at from n) s list z = goesOn s list at z from n
 frontSays (front.Refused r p) s list z = refused r p

@@ -38,7 +38,7 @@ unfoldable pub threes : List Report → List ℕ
 threes [] = []
 threes (r ∷ rs) = three r ++ threes rs
 
--- a refused list changes no lent byte or number
+-- "A refusal returns its number and zeros, and every lent buffer keeps its contents"
 abbrev pub refusedAt : ℕ → ℕ → List ℕ → List ℕ → List ℕ → Ended
 refusedAt n p z za report = record { number = n; place = p; words = 0; tally = noTally; z = z; za = za; report = report }
 
