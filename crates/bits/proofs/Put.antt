@@ -10,7 +10,7 @@ use lib.Bits.{bitXor, differ}
 use lib.Count.{ones}
 use Rattle.elements.specs.Elements.{elementAt, element, putAt}
 use Rattle.elements.proofs.Elements.{Bytes, pow256, elementAt-lt, elementAt-same, length-put, put-after}
-use Rattle.elements.proofs.Vectors.{written, written-turn, written-after, written-splice, length-written, vector-own}
+use Rattle.elements.proofs.Vectors.{putEach, putEach-turn, putEach-after, putEach-splice, length-putEach, vector-own}
 use Rattle.bits.specs.Bits.{overBits, overBytes, toggled}
 use Rattle.bits.specs.Replace.{Replaced}
 use Rattle.bits.proofs.Bits.{Unmoved, differ-unmoved, differ-once, bits-split, bits-mod, bits-same, bits-le, bytes-set}
@@ -44,7 +44,7 @@ module _ (f : ℕ → ℕ → ℕ) where
 
 -- the file after i bytes: whole elements of eight bytes
 abbrev pub Upto : List ℕ → List ℕ → ℕ → ℕ → List ℕ → Type 0
-Upto file₀ new at i file = file ≡ written (element 8 new) 8 at (i / 8) file₀
+Upto file₀ new at i file = file ≡ putEach (element 8 new) 8 at (i / 8) file₀
 
 -- the bits that change in eight bytes
 pub few-ones : (before after : ℕ) → before < 2 ^ 64 → after < 2 ^ 64 → ones (bitXor before after) ≤ 64
@@ -58,7 +58,7 @@ pub record Turned (file₀ new : List ℕ) (at i t r : ℕ) (file′ : List ℕ)
 
 -- what is not written yet stands as it was
 pub untouched : (file₀ new : List ℕ) (at i : ℕ) (file : List ℕ) → Upto file₀ new at i file → (j : ℕ) → getD file (at + i + j) 0 ≡ getD file₀ (at + i + j) 0
-untouched file₀ new at i file up j = rw up (written-after (element 8 new) 8 at file₀ (i / 8) (at + i + j) (omega arith))
+untouched file₀ new at i file up j = rw up (putEach-after (element 8 new) 8 at file₀ (i / 8) (at + i + j) (omega arith))
 
 module _ (file₀ new : List ℕ) (at : ℕ) (fit : at + length new ≤ length file₀) (eights : length new % 8 ≡ 0) where
   -- one turn, from what its calls ensure
@@ -68,14 +68,14 @@ module _ (file₀ new : List ℕ) (at : ℕ) (fit : at + length new ≤ length f
   turn i t before after file file′ by hi h up et eb ea lb la ef =
       let e : ℕ = i / 8 in
       let ie : i ≡ e * 8 = omega arith in
-      let long : length file ≡ length file₀ = rw up (length-written (element 8 new) 8 at file₀ e) in
+      let long : length file ≡ length file₀ = rw up (length-putEach (element 8 new) 8 at file₀ e) in
       let agree : (j : ℕ) → j < 8 → getD file (at + i + j) 0 ≡ getD file₀ (at + i + j) 0 = λ j _. untouched file₀ new at i file up j in
       let old : before ≡ elementAt 8 (at + i) file₀ = eb ∙ elementAt-same 8 (at + i) (at + i) file file₀ agree in
       let count : ones (bitXor before after) ≡ overBits differ 64 before after = ones-xor 64 before after lb la in
       record {
         upto =
             let q : (i + 8) / 8 ≡ e + 1 = omega arith in
-            rw q (written-turn (element 8 new) 8 at e (at + i) after file₀ file file′ (omega arith) (ea ∙ ap (λ (x : ℕ). elementAt 8 x new) ie) up ef);
+            rw q (putEach-turn (element 8 new) 8 at e (at + i) after file₀ file file′ (omega arith) (ea ∙ ap (λ (x : ℕ). elementAt 8 x new) ie) up ef);
         bits = rw (et, count, ef, old) (sym (bytes-put differ differ-unmoved 8 (at + i) after file₀ file (sym long) by (omega arith) agree));
         long = rw ef (length-put (at + i) after file 8) ∙ long;
       }
@@ -87,7 +87,7 @@ module _ (file₀ new : List ℕ) (at : ℕ) (fit : at + length new ≤ length f
       let e : ℕ = i / 8 in
       let long : length new ≡ e * 8 = omega arith in
       record {
-        after = up ∙ written-splice (element 8 new) 8 at e file₀ (omega arith) ∙ rw (vector-own 8 e new by long);
+        after = up ∙ putEach-splice (element 8 new) 8 at e file₀ (omega arith) ∙ rw (vector-own 8 e new by long);
         bits = et;
         few = omega arith;
       }

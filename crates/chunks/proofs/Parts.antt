@@ -8,7 +8,7 @@ use native.Mathlib.Omega.{arith}
 use Rattle.elements.specs.Elements.{elementAt}
 use Rattle.lanes.specs.Lane.{laneStep}
 use Rattle.lanes.specs.Widths.{Widths}
-use Rattle.lanes.proofs.Widths.{doubled}
+use Rattle.lanes.proofs.Widths.{doubled, quadrupled}
 use Rattle.chunks.specs.Chunk.{joined, partStep, chunk, OfArray}
 
 -- what `element` ensures, where the code has worked out the places by itself
@@ -46,11 +46,7 @@ by-array P a b c lane wide o =
     o
 
 pub array-widths : (lane wide : ℕ) → OfArray lane wide → Widths lane wide
-array-widths =
-    by-array Widths
-    (inl refl, (inl (inr (inr refl)), omega arith))
-    (inr (inl refl), (inr refl, omega arith))
-    (doubled 16 (inr (inl refl)))
+array-widths = by-array Widths (quadrupled (inl refl)) (quadrupled (inr refl)) (doubled 16 (inr (inl refl)))
 
 pub array-64 : (lane wide : ℕ) → OfArray lane wide → wide ≡ 64 → lane ≡ 16
 array-64 = by-array (λ lane wide. wide ≡ 64 → lane ≡ 16) (λ e. absurd (omega arith)) (λ e. refl) (λ e. refl)

@@ -1,26 +1,40 @@
 -- A vector whose elements are stepped, where the lanes that go into them lie at even steps, and its chunks of eight bytes. Only contracts and proofs
--- use this: which lanes go into which element is said by the recipes.
+-- use this.
 use Prim.Native.Nat.{ℕ, zero, suc, _+_, _-_, _*_, _/_, _%_, _^_, _≤_}
 use mathlib.Core.Path.{_≡_}
 use mathlib.Core.Logic.{_⊎_}
-use mathlib.Core.Bool.{Bool}
+use mathlib.Core.Bool.{Bool, false}
 use mathlib.Core.List.{List}
-use lib.ListN.{length}
-use Rattle.elements.specs.Elements.{elementAt, vector}
+use lib.ListN.{length, drop}
+use Rattle.elements.specs.Lanes.{each, chosenAt}
+use Rattle.elements.specs.Elements.{elementAt}
 use Rattle.lanes.specs.Lane.{laneStep}
+use Rattle.recipes.specs.Recipe.{Recipe}
+use Rattle.recipes.specs.Element.{newBytes}
 
--- element e of `wide` bits, of those that stand in `old` from byte `at` on, after a step with the lanes at bytes x + e·dx and y + e·dy of z
-unfoldable pub strideStep : ℕ → ℕ → Bool → Bool → List ℕ → ℕ → List ℕ → ℕ → ℕ → ℕ → ℕ → ℕ → ℕ
-strideStep lane wide unsigned subtract old at z x dx y dy e =
-    laneStep lane wide unsigned subtract
-    (elementAt (wide / 8) (at + e * (wide / 8)) old)
-    (elementAt (lane / 8) (x + e * dx) z)
-    (elementAt (lane / 8) (y + e * dy) z)
+-- elements whose lanes lie at even steps: from one to the next, so many lanes of the first source, and so many of the second
+abbrev pub evenly : ℕ → ℕ → Bool → Bool → ℕ → ℕ → Recipe
+evenly lane wide unsigned subtract first second =
+    record {
+      saturating = false;
+      unsigned = unsigned;
+      subtract = subtract;
+      lane = lane;
+      wide = wide;
+      first = each first 0;
+      second = each second 0;
+    }
 
--- `bytes` bytes of such elements
-unfoldable pub strideBytes : ℕ → ℕ → Bool → Bool → List ℕ → ℕ → List ℕ → ℕ → ℕ → ℕ → ℕ → ℕ → List ℕ
-strideBytes lane wide unsigned subtract old at z x dx y dy bytes =
-    vector (strideStep lane wide unsigned subtract old at z x dx y dy) (wide / 8) (bytes / (wide / 8))
+-- `bytes` new bytes of such elements: they stand in `old` from byte `at` on, and their lanes in z from bytes x and y on
+abbrev pub evenBytes : ℕ → ℕ → Bool → Bool → List ℕ → ℕ → List ℕ → ℕ → ℕ → ℕ → ℕ → ℕ → List ℕ
+evenBytes lane wide unsigned subtract old at z x first y second bytes =
+    newBytes (evenly lane wide unsigned subtract first second) bytes (drop at old) (drop x z) (drop y z)
+
+-- the lanes of n such elements, in steps of `by` from byte x on, are there
+abbrev pub Reach : ℕ → ℕ → List ℕ → ℕ → ℕ → Type 0
+Reach lane n z x by = x + chosenAt lane (each by 0) (n - 1) + lane / 8 ≤ length z
+
+-- ---- eight bytes of them
 
 -- the number whose elements of w bytes are f 0 .. f (n - 1)
 unfoldable pub joined : (ℕ → ℕ) → ℕ → ℕ → ℕ
@@ -40,8 +54,8 @@ unfoldable pub chunk : ℕ → ℕ → Bool → Bool → ℕ → List ℕ → �
 chunk lane wide unsigned subtract old z x dx y dy = joined (partStep lane wide unsigned subtract old z x dx y dy) (wide / 8) (64 / wide)
 
 -- n lanes that lie dx bytes apart from byte x on are there
-abbrev pub Reach : ℕ → ℕ → List ℕ → ℕ → ℕ → Type 0
-Reach lane n z x dx = x + (n - 1) * dx + lane / 8 ≤ length z
+abbrev pub Apart : ℕ → ℕ → List ℕ → ℕ → ℕ → Type 0
+Apart lane n z x dx = x + (n - 1) * dx + lane / 8 ≤ length z
 
 -- the lanes and elements of words that write ZA: D's of 8 and 32 bits or of 16 and 64, E's of 16 and 32
 abbrev pub OfArray : ℕ → ℕ → Type 0

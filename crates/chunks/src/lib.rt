@@ -4,11 +4,11 @@ ghost use mathlib.Core.Logic.{_⊎_};
 ghost use Prim.Native.Nat.{_+_, _*_, _/_, _%_, _^_, _<_, _≤_};
 ghost use lib.ListN.{length};
 ghost use Rattle.elements.specs.Elements.{elementAt};
-ghost use Rattle.elements.specs.Size.{IsLane};
+ghost use Rattle.elements.specs.Lanes.{IsLane};
 ghost use Rattle.lanes.specs.Lane.{laneStep};
 ghost use Rattle.lanes.specs.Widths.{Widths};
 ghost use Rattle.bits.specs.Replace.{Replaced};
-ghost use Rattle.chunks.specs.Chunk.{chunk, strideBytes, Reach, OfArray};
+ghost use Rattle.chunks.specs.Chunk.{evenBytes, Reach, chunk, Apart, OfArray};
 
 // An element of `wide` bits after a step, of the old one and of the lanes at bytes x and y.
 fn element(
@@ -44,7 +44,7 @@ fn two(
     dy: usize,
 ) -> u64
     requires { ⌜ Widths lane 32 ⌝ }
-    requires { ⌜ Reach lane 2 (now z) x dx × Reach lane 2 (now z) y dy ⌝ }
+    requires { ⌜ Apart lane 2 (now z) x dx × Apart lane 2 (now z) y dy ⌝ }
     ensures { λ r. ⌜ r ≡ chunk lane 32 unsigned subtract old (now (z .entry)) x dx y dy ⌝ }
 {
     let a = element(lane, 32, unsigned, subtract, old % 4294967296, z, x, y);
@@ -73,7 +73,7 @@ fn v_chunk(
     dy: usize,
 ) -> u64
     requires { ⌜ (lane ≡ 16) ⊎ (lane ≡ 32) ⌝ }
-    requires { ⌜ Reach lane (32 / lane) (now z) x (lane / 8) × Reach lane (32 / lane) (now z) y dy ⌝ }
+    requires { ⌜ Apart lane (32 / lane) (now z) x (lane / 8) × Apart lane (32 / lane) (now z) y dy ⌝ }
     ensures { λ r. ⌜ r ≡ chunk lane (2 * lane) unsigned subtract old (now (z .entry)) x (lane / 8) y dy ⌝ }
 {
     if lane == 16 {
@@ -94,7 +94,7 @@ fn array_chunk(
     y: usize,
 ) -> u64
     requires { ⌜ OfArray lane wide ⌝ }
-    requires { ⌜ Reach lane (64 / wide) (now z) x (wide / 8) × Reach lane (64 / wide) (now z) y (wide / 8) ⌝ }
+    requires { ⌜ Apart lane (64 / wide) (now z) x (wide / 8) × Apart lane (64 / wide) (now z) y (wide / 8) ⌝ }
     ensures { λ r. ⌜ r ≡ chunk lane wide unsigned subtract old (now (z .entry)) x (wide / 8) y (wide / 8) ⌝ }
 {
     if wide == 64 {
@@ -128,7 +128,7 @@ fn eight(
 )
     requires { ⌜ length (now new) ≡ 16 ⌝ }
     requires { ⌜ (at + 16 ≤ length (now z)) × ((x + 8 ≤ length (now z)) × (y + 7 * by + 1 ≤ length (now z))) ⌝ }
-    ensures { λ _. ⌜ now (new .exit) ≡ strideBytes 8 16 unsigned subtract (now (z .entry)) at (now (z .entry)) x 1 y by 16 ⌝ }
+    ensures { λ _. ⌜ now (new .exit) ≡ evenBytes 8 16 unsigned subtract (now (z .entry)) at (now (z .entry)) x 1 y by 16 ⌝ }
 {
     let mut e: usize = 0;
     while e < 8 {
@@ -149,7 +149,7 @@ fn renew_eight(
     by: usize,
 ) -> u32
     requires { ⌜ (at + 16 ≤ length (now z)) × ((x + 8 ≤ length (now z)) × (y + 7 * by + 1 ≤ length (now z))) ⌝ }
-    ensures { λ t. ⌜ Replaced at t (strideBytes 8 16 unsigned subtract (now (z .entry)) at (now (z .entry)) x 1 y by 16) (now (z .entry)) (now (z .exit)) ⌝ }
+    ensures { λ t. ⌜ Replaced at t (evenBytes 8 16 unsigned subtract (now (z .entry)) at (now (z .entry)) x 1 y by 16) (now (z .entry)) (now (z .exit)) ⌝ }
 {
     let mut new = [0u8; 16];
     eight(unsigned, subtract, z, at, x, y, by, &mut new);
@@ -168,9 +168,9 @@ fn renew_wider(
     by: usize,
 ) -> u32
     requires { ⌜ (lane ≡ 16) ⊎ (lane ≡ 32) ⌝ }
-    requires { ⌜ (at + 16 ≤ length (now z)) × (x + 8 ≤ length (now z)) ⌝ }
-    requires { ⌜ Reach lane (64 / lane) (now z) y (by * (lane / 8)) ⌝ }
-    ensures { λ t. ⌜ Replaced at t (strideBytes lane (2 * lane) unsigned subtract (now (z .entry)) at (now (z .entry)) x (lane / 8) y (by * (lane / 8)) 16)
+    requires { ⌜ at + 16 ≤ length (now z) ⌝ }
+    requires { ⌜ Reach lane (64 / lane) (now z) x 1 × Reach lane (64 / lane) (now z) y by ⌝ }
+    ensures { λ t. ⌜ Replaced at t (evenBytes lane (2 * lane) unsigned subtract (now (z .entry)) at (now (z .entry)) x 1 y by 16)
         (now (z .entry)) (now (z .exit)) ⌝ }
 {
     let dy = by * (lane / 8);
@@ -196,9 +196,9 @@ pub fn renew_v(
     by: usize,
 ) -> u32
     requires { ⌜ IsLane lane ⌝ }
-    requires { ⌜ (at + 16 ≤ length (now z)) × (x + 8 ≤ length (now z)) ⌝ }
-    requires { ⌜ Reach lane (64 / lane) (now z) y (by * (lane / 8)) ⌝ }
-    ensures { λ t. ⌜ Replaced at t (strideBytes lane (2 * lane) unsigned subtract (now (z .entry)) at (now (z .entry)) x (lane / 8) y (by * (lane / 8)) 16)
+    requires { ⌜ at + 16 ≤ length (now z) ⌝ }
+    requires { ⌜ Reach lane (64 / lane) (now z) x 1 × Reach lane (64 / lane) (now z) y by ⌝ }
+    ensures { λ t. ⌜ Replaced at t (evenBytes lane (2 * lane) unsigned subtract (now (z .entry)) at (now (z .entry)) x 1 y by 16)
         (now (z .entry)) (now (z .exit)) ⌝ }
 {
     if lane == 8 {
@@ -223,8 +223,8 @@ pub fn renew(
 ) -> u32
     requires { ⌜ OfArray lane wide ⌝ }
     requires { ⌜ (at + bytes ≤ length (now za)) × ((bytes % 8 ≡ 0) × (bytes ≤ 65536)) ⌝ }
-    requires { ⌜ (x + bytes + lane / 8 ≤ length (now z) + wide / 8) × (y + bytes + lane / 8 ≤ length (now z) + wide / 8) ⌝ }
-    ensures { λ t. ⌜ Replaced at t (strideBytes lane wide unsigned subtract (now (za .entry)) at (now (z .entry)) x (wide / 8) y (wide / 8) bytes)
+    requires { ⌜ Reach lane (8 * bytes / wide) (now z) x (wide / lane) × Reach lane (8 * bytes / wide) (now z) y (wide / lane) ⌝ }
+    ensures { λ t. ⌜ Replaced at t (evenBytes lane wide unsigned subtract (now (za .entry)) at (now (z .entry)) x (wide / lane) y (wide / lane) bytes)
         (now (za .entry)) (now (za .exit)) ⌝ }
 {
     let mut t: u32 = 0;

@@ -14,15 +14,12 @@ use Rattle.words.specs.Ranges.{Ranges}
 use Rattle.words.specs.declared.Family.{Family}
 use Rattle.words.specs.declared.Family.the-variants.{ByElement, Vector, Saturating, LongLong, Long}
 use Rattle.words.specs.declared.Fields.{Fields}
-use Rattle.words.proofs.Ranges.{in-family}
-use Rattle.elements.specs.Size.{perHalf, IsLane}
 use Rattle.elements.specs.Elements.{elementOf}
 use Rattle.lanes.specs.Lane.{step}
 use Rattle.bits.proofs.Bits.{toggled-same}
-use Rattle.recipes.specs.Recipe.{Recipe, sizeOf, doubled, eachSegment, halfOf, recipeOf, newLength, perSource}
-use Rattle.recipes.specs.Element.{chosen}
-use Rattle.recipes.proofs.Inside.{bits-of-lane}
-use Rattle.recipes.proofs.Sizes.{half-in-bits, bits-of-doubled, bits-of-quadrupled, in-half, InBits, newOf}
+use Rattle.recipes.specs.Recipe.{recipeOf, newLength, perSource}
+use Rattle.recipes.specs.Element.{newElement}
+use Rattle.recipes.proofs.Inside.{in-half}
 use Rattle.machine.specs.Step.{register, zAfter, stride, selected, firstVector, zaAfter}
 use Rattle.machine.specs.Execute.{stepped}
 use Rattle.machine.specs.Loop.{IntoZa}
@@ -34,17 +31,6 @@ use Rattle.demands.specs.Execution.{ElementsA, ElementsB, ElementsC, Ele
 use Rattle.demands.specs.Execution.{zaVector, Among, First, Distinct, Exact}
 use Rattle.demands.proofs.Effects.{z-length, z-bytes, z-few, z-elsewhere, z-element, za-length, za-bytes, za-few, among, za-elsewhere, za-element}
 use Rattle.demands.proofs.Outcomes.{accepted-ranges, by-step, stepped-number}
-
--- ---- the elements that the recipes choose, with 64/lane for the elements of a half
-
-halves : (lane : ℕ) → IsLane lane → perHalf (sizeOf lane) ≡ 64 / lane
-halves lane l = half-in-bits (sizeOf lane) ∙ ap (λ (b : ℕ). 64 / b) (bits-of-lane l)
-
-at-half : (part e lane : ℕ) → IsLane lane → chosen (sizeOf lane) (halfOf part (sizeOf lane)) e ≡ part * (64 / lane) + e
-at-half part e lane l = rw (halves lane l) (omega arith)
-
-at-segment : (index e lane : ℕ) → IsLane lane → chosen (sizeOf lane) (eachSegment 2 index) e ≡ 2 * (e - e % (64 / lane)) + index
-at-segment index e lane l = ap (λ (h : ℕ). 2 * (e - e % h) + index) (halves lane l)
 
 -- ---- an accepted word
 
@@ -90,51 +76,40 @@ module _ (s : Settings) (w : ℕ) (f : Fields) (z za : List ℕ) (a : Accepted s
 
   -- ---- the elements that are new, by the family's recipe
 
-  in-z : (family : Family) → f .family ≡ family → InBits (recipeOf family f 0) (f .lane) (2 * f .lane)
-      → (e : ℕ) → e < 8 * newLength family (vectorBytes s) / (2 * f .lane)
-      → elementOf (2 * f .lane) (register s (zAfter s f z) (f .destination)) e
-      ≡ newOf (recipeOf family f 0) (f .lane) (2 * f .lane) (register s z (f .destination)) (register s z (f .first)) (register s z (f .second)) e
-  in-z family q = rw (← q) (z-element s v f g z (a .z-exact) (f .lane) (2 * f .lane))
+  in-z : (family : Family) → f .family ≡ family → (e : ℕ) → e < 8 * newLength family (vectorBytes s) / recipeOf family f 0 .wide
+      → elementOf (recipeOf family f 0 .wide) (register s (zAfter s f z) (f .destination)) e
+      ≡ newElement (recipeOf family f 0) (register s z (f .destination)) (register s z (f .first)) (register s z (f .second)) e
+  in-z family q = rw (← q) (z-element s v f g z (a .z-exact))
 
-  in-za : (family : Family) → f .family ≡ family → IntoZa f → (r i wide : ℕ) → r < f .group → i < perSource family
-      → InBits (recipeOf family f i) (f .lane) wide → (e : ℕ) → e < 8 * arrayBytes s / wide
-      → elementOf wide (zaVector s (zaAfter s f z za) (firstVector s f + r * stride s f + i)) e
-      ≡ newOf (recipeOf family f i) (f .lane) wide (zaVector s za (firstVector s f + r * stride s f + i))
-      (register s z (f .first + r)) (register s z (f .second + r)) e
-  in-za family q into r i wide = rw (← q) (za-element s v-za f g into z za (a .za-exact) r i (f .lane) wide)
+  in-za : (family : Family) → f .family ≡ family → IntoZa f → (r i : ℕ) → r < f .group → i < perSource family
+      → (e : ℕ) → e < 8 * arrayBytes s / recipeOf family f i .wide
+      → elementOf (recipeOf family f i .wide) (zaVector s (zaAfter s f z za) (firstVector s f + r * stride s f + i)) e
+      ≡ newElement (recipeOf family f i) (zaVector s za (firstVector s f + r * stride s f + i)) (register s z (f .first + r)) (register s z (f .second + r)) e
+  in-za family q into = rw (← q) (za-element s v-za f g into z za (a .za-exact))
 
-  -- lanes, and written elements of double width
-  double : (r : Recipe) → r .lane ≡ sizeOf (f .lane) → r .wide ≡ doubled (sizeOf (f .lane)) → InBits r (f .lane) (2 * f .lane)
-  double r l d = record { lane-bits = rw l (bits-of-lane (g .lane)); wide-bits = rw d (bits-of-doubled (g .lane)) }
+  -- element e of half Q, in the order of the statement
+  of-half : (e : ℕ) → 1 * e + f .part * (64 / f .lane) ≡ f .part * (64 / f .lane) + e
+  of-half e = omega arith
 
   pub elements-a : f .family ≡ ByElement → ElementsA s f z za (steppedZ s f z za)
-  unfolding step
-  elements-a q e h =
-      in-z ByElement q (double (recipeOf ByElement f 0) refl refl) e (rw (← in-half (g .lane)) h)
-      ∙ rw (at-half (f .part) e (f .lane) (g .lane), zero-mul e, zero-add (f .index))
+  unfolding newElement step
+  elements-a q e h = in-z ByElement q e (rw (← in-half (g .lane)) h) ∙ rw (of-half e, zero-mul e, zero-add (f .index))
 
   pub elements-b : f .family ≡ Vector → ElementsB s f z za (steppedZ s f z za)
-  unfolding step
-  elements-b q e h =
-      in-z Vector q (double (recipeOf Vector f 0) refl refl) e (rw (← in-half (g .lane)) h)
-      ∙ rw (at-half (f .part) e (f .lane) (g .lane))
+  unfolding newElement step
+  elements-b q e h = in-z Vector q e (rw (← in-half (g .lane)) h) ∙ rw (of-half e)
 
   pub elements-c : f .family ≡ Saturating → ElementsC s f z za (steppedZ s f z za)
-  unfolding step
-  elements-c q e h =
-      in-z Saturating q (double (recipeOf Saturating f 0) refl refl) e (rw (vector-bits s (a .valid)) h)
-      ∙ rw (at-segment (f .index) e (f .lane) (g .lane))
+  unfolding newElement step
+  elements-c q e h = in-z Saturating q e (rw (vector-bits s (a .valid)) h)
 
   pub elements-d : f .family ≡ LongLong → ElementsZa 4 s f z za (steppedZa s f z za)
-  unfolding step
-  elements-d q r i e hr hi h =
-      in-za LongLong q (inl q) r i (4 * f .lane) hr hi
-      (record { lane-bits = bits-of-lane (g .lane); wide-bits = bits-of-quadrupled (in-family f g LongLong q .1) }) e (rw array-bits h)
+  unfolding newElement step
+  elements-d q r i e hr hi h = in-za LongLong q (inl q) r i hr hi e (rw array-bits h)
 
   pub elements-e : f .family ≡ Long → ElementsZa 2 s f z za (steppedZa s f z za)
-  unfolding step
-  elements-e q r i e hr hi h =
-      in-za Long q (inr q) r i (2 * f .lane) hr hi (double (recipeOf Long f i) refl refl) e (rw array-bits h)
+  unfolding newElement step
+  elements-e q r i e hr hi h = in-za Long q (inr q) r i hr hi e (rw array-bits h)
 
   -- ---- what is not new
 

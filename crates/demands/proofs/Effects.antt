@@ -16,25 +16,22 @@ use Rattle.settings.specs.Valid.{vectorBytes, arrayBytes}
 use Rattle.settings.specs.declared.Settings.{Settings}
 use Rattle.words.specs.Ranges.{Ranges}
 use Rattle.words.specs.declared.Fields.{Fields}
-use Rattle.elements.specs.Size.{bytesOf}
-use Rattle.elements.specs.Elements.{element, elementOf}
+use Rattle.elements.specs.Elements.{elementOf}
 use Rattle.elements.proofs.Elements.{Bytes, elementAt-take, Bytes-splice}
-use Rattle.elements.proofs.Vectors.{within}
 use Rattle.elements.proofs.Files.{next, room, length-splice, splice-before, splice-after}
 use Rattle.elements.proofs.Files.{vectorAt-renewed, length-replaced, Bytes-replaced}
 use Rattle.bits.specs.Bits.{toggled}
 use Rattle.bits.proofs.Bits.{differ-unmoved, differ-once, bytes-splice-le}
 use Rattle.bits.proofs.Files.{bytes-replaced-le}
-use Rattle.recipes.specs.Recipe.{Recipe, recipeOf, newLength, perSource}
-use Rattle.recipes.specs.Element.{newBytes}
-use Rattle.recipes.proofs.Built.{whole-elements, length-newBytes, Bytes-newBytes}
-use Rattle.recipes.proofs.Inside.{new-length}
+use Rattle.recipes.specs.Recipe.{recipeOf, newLength, perSource}
+use Rattle.recipes.specs.Element.{newElement, newBytes}
+use Rattle.recipes.proofs.Built.{element-ends, element-newBytes, Bytes-newBytes}
+use Rattle.recipes.proofs.Inside.{new-length, widths, length-newBytes}
 use Rattle.machine.specs.Step.{register, newRegister, zAfter, stride, firstVector, writesVector, newVector, zaAfter}
 use Rattle.machine.specs.Loop.{place, becomes, IntoZa}
 use Rattle.machine.proofs.Grid.{row-of, within-row, row-lt, by-row, place-distinct}
 use Rattle.machine.proofs.Array.{grid, tested, passes, placed, array-is}
 use Rattle.machine.proofs.Registers.{long-x, long-register, register-is}
-use Rattle.recipes.proofs.Sizes.{InBits, newOf, bytes-of-wide, counted-in-bits, element-in-bits}
 use Rattle.demands.specs.Execution.{zaVector, Among}
 
 -- ---- Z
@@ -86,23 +83,17 @@ module _ (s : Settings) (v : VectorLength (vectorBytes s)) (f : Fields) (g : Ran
   z-same r h apart = each-z r h ∙ rw (ne-eqb r (f .destination) (λ e. apart (sym e)))
 
   -- an element of the destination
-  whole-element : (k e : ℕ) → e * k + k ≤ n → element k (register s (zAfter s f z) (f .destination)) e ≡ element k x e
+  pub z-element : (e : ℕ) → e < 8 * newLength (f .family) (vectorBytes s) / recipeOf (f .family) f 0 .wide
+      → elementOf (recipeOf (f .family) f 0 .wide) (register s (zAfter s f z) (f .destination)) e
+      ≡ newElement (recipeOf (f .family) f 0) (register s z (f .destination)) (register s z (f .first)) (register s z (f .second)) e
   unfolding newRegister
-  whole-element k e h =
+  z-element e h =
+      let b : ℕ = recipeOf (f .family) f 0 .wide in
       let rest : List ℕ = drop n (register s z (f .destination)) in
-      ap (λ (l : List ℕ). element k l e) z-new
-      ∙ sym (elementAt-take k (e * k) n (x ++ rest) h)
-      ∙ ap (λ (l : List ℕ). element k l e) (take-at x rest n long)
-
-  pub z-element : (lane wide : ℕ) → InBits (recipeOf (f .family) f 0) lane wide → (e : ℕ) → e < 8 * newLength (f .family) (vectorBytes s) / wide
-      → elementOf wide (register s (zAfter s f z) (f .destination)) e
-      ≡ newOf (recipeOf (f .family) f 0) lane wide (register s z (f .destination)) (register s z (f .first)) (register s z (f .second)) e
-  z-element lane wide b e h =
-      let r : Recipe = recipeOf (f .family) f 0 in
-      let q : e < n / bytesOf (r .wide) = rw (← counted-in-bits r lane wide b n) h in
-      let l : e * bytesOf (r .wide) + bytesOf (r .wide) ≤ n =
-      omega (arith, within e (n / bytesOf (r .wide)) (bytesOf (r .wide)) q, whole-elements n (new-length (f .family) w v .0) (r .wide)) in
-      whole-element (wide / 8) e (rw (← bytes-of-wide r lane wide b) l) ∙ element-in-bits r lane wide b n _ _ _ e h
+      ap (λ (l : List ℕ). elementOf b l e) z-new
+      ∙ sym (elementAt-take (b / 8) (e * (b / 8)) n (x ++ rest) (element-ends b (widths f g 0 .1 .0) n (new-length (f .family) w v .0) e h))
+      ∙ ap (λ (l : List ℕ). elementOf b l e) (take-at x rest n long)
+      ∙ element-newBytes (recipeOf (f .family) f 0) n _ _ _ (widths f g 0 .1 .0) e h
 
 -- ---- ZA
 
@@ -149,7 +140,7 @@ module _ (s : Settings) (v : VectorLength (arrayBytes s)) (f : Fields) (g : Rang
   each-za u h =
       vectorAt-renewed (writesVector s f) (λ u. newVector s f z (u / stride s f) (u % stride s f - firstVector s f) (zaVector s za u))
       (arrayBytes s) (arrayBytes s) za long
-      (λ u q e. length-newBytes _ (arrayBytes s) _ _ _ (omega (arith, v .whole))) u h
+      (λ u q e. length-newBytes f g _ (arrayBytes s) _ _ _ (omega (arith, v .whole))) u h
 
   pub za-elsewhere : (u : ℕ) → u < arrayBytes s → (Among (perSource (f .family)) s f u → ⊥) → zaVector s (zaAfter s f z za) u ≡ zaVector s za u
   za-elsewhere u h out = each-za u h ∙ rw (failed (writesVector s f u) (λ e. out (among s v f g into u h e)))
@@ -163,12 +154,10 @@ module _ (s : Settings) (v : VectorLength (arrayBytes s)) (f : Fields) (g : Rang
       let b : u % stride s f - firstVector s f ≡ i = omega (arith, within-row (grid s v f g into) r i hi) in
       each-za u (row-lt (grid s v f g into) r i hr hi) ∙ rw (passes s v f g into r i hr hi, a, b)
 
-  pub za-element : (r i lane wide : ℕ) → r < f .group → i < perSource (f .family) → InBits (recipeOf (f .family) f i) lane wide
-      → (e : ℕ) → e < 8 * arrayBytes s / wide
-      → elementOf wide (zaVector s (zaAfter s f z za) (firstVector s f + r * stride s f + i)) e
-      ≡ newOf (recipeOf (f .family) f i) lane wide (zaVector s za (firstVector s f + r * stride s f + i))
-      (register s z (f .first + r)) (register s z (f .second + r)) e
+  pub za-element : (r i : ℕ) → r < f .group → i < perSource (f .family) → (e : ℕ) → e < 8 * arrayBytes s / recipeOf (f .family) f i .wide
+      → elementOf (recipeOf (f .family) f i .wide) (zaVector s (zaAfter s f z za) (firstVector s f + r * stride s f + i)) e
+      ≡ newElement (recipeOf (f .family) f i) (zaVector s za (firstVector s f + r * stride s f + i)) (register s z (f .first + r)) (register s z (f .second + r)) e
   unfolding newVector
-  za-element r i lane wide hr hi b e h =
-      ap (λ (l : List ℕ). elementOf wide l e) (za-vector r i hr hi)
-      ∙ element-in-bits (recipeOf (f .family) f i) lane wide b (arrayBytes s) _ _ _ e h
+  za-element r i hr hi e h =
+      ap (λ (l : List ℕ). elementOf (recipeOf (f .family) f i .wide) l e) (za-vector r i hr hi)
+      ∙ element-newBytes (recipeOf (f .family) f i) (arrayBytes s) _ _ _ (widths f g i .1 .0) e h

@@ -23,8 +23,7 @@ use Rattle.elements.proofs.Elements.{Bytes}
 use Rattle.elements.proofs.Files.{room, length-vectorAt, Bytes-vectorAt, renewed-undone}
 use Rattle.bits.proofs.Bits.{toggled-comm}
 use Rattle.recipes.specs.Recipe.{recipeOf, newLength}
-use Rattle.recipes.proofs.Built.{length-newBytes}
-use Rattle.recipes.proofs.Inside.{new-length}
+use Rattle.recipes.proofs.Inside.{new-length, widths, length-newBytes}
 use Rattle.recipes.proofs.Undone.{saturates-c, recipe-turned, undo-vector, undo-whole}
 use Rattle.machine.specs.Step.{register, newRegister, zAfter, stride, selected, firstVector, writesVector, newVector, zaAfter}
 use Rattle.machine.specs.Execute.{Outcome, written, stepped}
@@ -55,7 +54,7 @@ module _ (s : Settings) (v : VectorLength (vectorBytes s)) (f : Fields) (g : Ran
       let old-long : length (register s z d) ≡ w = length-vectorAt w d z (room d 32 w z long (g .destination)) in
       undo-vector (recipeOf (f .family) f 0) (recipeOf (f .family) (turned f) 0) n (register s z d) (register s z (f .first)) (register s z (f .second))
       (register s (zAfter s f z) d) (register s (zAfter s f z) (f .first)) (register s (zAfter s f z) (f .second))
-      (recipe-turned (f .family) f 0) wraps (new-length (f .family) w v .0)
+      (recipe-turned (f .family) f 0) (widths f g 0 .1 .0) wraps (new-length (f .family) w v .0)
       (Bytes-vectorAt w d z b) (omega (arith, new-length (f .family) w v .1))
       (z-new s v f g z long) (z-same s v f g z long (f .first) hf not-first) (z-same s v f g z long (f .second) hs not-second)
 
@@ -79,7 +78,7 @@ module _ (s : Settings) (v : VectorLength (arrayBytes s)) (f : Fields) (g : Rang
 
   wide : (u : ℕ) → length (new f za u) ≡ w-za
   unfolding newVector
-  wide u = length-newBytes _ w-za _ _ _ (omega (arith, v .whole))
+  wide u = length-newBytes f g _ w-za _ _ _ (omega (arith, v .whole))
 
   vector-back : (u : ℕ) → u < arrayBytes s → writesVector s f u ≡ true → new (turned f) (zaAfter s f z za) u ≡ vectorAt w-za u za
   unfolding newVector turned
@@ -89,7 +88,7 @@ module _ (s : Settings) (v : VectorLength (arrayBytes s)) (f : Fields) (g : Rang
       let now : vectorAt w-za u (zaAfter s f z za) ≡ new f za u = each-za s v f g into z za long u h ∙ rw e in
       undo-whole (recipeOf (f .family) f i) (recipeOf (f .family) (turned f) i) w-za (vectorAt w-za u za)
       (register s z (f .first + u / stride s f)) (register s z (f .second + u / stride s f)) (vectorAt w-za u (zaAfter s f z za))
-      (recipe-turned (f .family) f i) (wraps i) (omega (arith, v .whole)) (Bytes-vectorAt w-za u za b) old-long now
+      (recipe-turned (f .family) f i) (widths f g i .1 .0) (wraps i) (omega (arith, v .whole)) (Bytes-vectorAt w-za u za b) old-long now
 
   za-back : zaAfter s (turned f) z (zaAfter s f z za) ≡ za
   unfolding zaAfter turned writesVector stride selected firstVector

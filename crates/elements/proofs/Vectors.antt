@@ -42,42 +42,42 @@ Bytes-vector f k (suc n) i = Bytes-append (vector f k n) (lowBytes k (f n)) (Byt
 -- ---- elements written one after the other
 
 -- s with the elements f 0 .. f (n - 1), of k bytes each, written one after the other from `base`
-unfoldable pub written : (ℕ → ℕ) → ℕ → ℕ → ℕ → List ℕ → List ℕ
+unfoldable pub putEach : (ℕ → ℕ) → ℕ → ℕ → ℕ → List ℕ → List ℕ
 unfolding putAt
-written f k base zero s = s
-written f k base (suc n) s = putAt k (base + n * k) (f n) (written f k base n s)
+putEach f k base zero s = s
+putEach f k base (suc n) s = putAt k (base + n * k) (f n) (putEach f k base n s)
 
 -- a loop's turn: one element more
-pub written-turn : (f : ℕ → ℕ) (k base e at new : ℕ) (s out out′ : List ℕ) → at ≡ base + e * k → new ≡ f e → out ≡ written f k base e s
-    → out′ ≡ putAt k at new out → out′ ≡ written f k base (e + 1) s
-unfolding written
-written-turn f k base e at new s out out′ ea en eo ep = rw (add-one, ← eo, ← en, ← ea) ep
+pub putEach-turn : (f : ℕ → ℕ) (k base e at new : ℕ) (s out out′ : List ℕ) → at ≡ base + e * k → new ≡ f e → out ≡ putEach f k base e s
+    → out′ ≡ putAt k at new out → out′ ≡ putEach f k base (e + 1) s
+unfolding putEach
+putEach-turn f k base e at new s out out′ ea en eo ep = rw (add-one, ← eo, ← en, ← ea) ep
 
 module _ (f : ℕ → ℕ) (k base : ℕ) (s : List ℕ) where
   abbrev W : ℕ → List ℕ
-  W n = written f k base n s
+  W n = putEach f k base n s
 
-  pub length-written : (n : ℕ) → length (written f k base n s) ≡ length s
-  unfolding written
-  length-written zero = refl
-  length-written (suc n) = length-put _ _ _ k ∙ length-written n
+  pub length-putEach : (n : ℕ) → length (putEach f k base n s) ≡ length s
+  unfolding putEach
+  length-putEach zero = refl
+  length-putEach (suc n) = length-put _ _ _ k ∙ length-putEach n
 
-  pub written-after : (n i : ℕ) → base + n * k ≤ i → getD (written f k base n s) i 0 ≡ getD s i 0
-  unfolding written
-  written-after zero i h = refl
-  written-after (suc n) i h =
+  pub putEach-after : (n i : ℕ) → base + n * k ≤ i → getD (putEach f k base n s) i 0 ≡ getD s i 0
+  unfolding putEach
+  putEach-after zero i h = refl
+  putEach-after (suc n) i h =
       let q = suc-mul n k in
-      put-after (base + n * k) (f n) (W n) k i (omega arith) ∙ written-after n i (omega arith)
+      put-after (base + n * k) (f n) (W n) k i (omega arith) ∙ putEach-after n i (omega arith)
 
   -- element e of what is written is f e
-  written-element : (n e : ℕ) → e < n → base + n * k ≤ length s → elementAt k (base + e * k) (written f k base n s) ≡ f e % 256 ^ k
-  unfolding written
-  written-element zero e h r = absurd (omega arith)
-  written-element (suc n) e h r =
+  putEach-element : (n e : ℕ) → e < n → base + n * k ≤ length s → elementAt k (base + e * k) (putEach f k base n s) ≡ f e % 256 ^ k
+  unfolding putEach
+  putEach-element zero e h r = absurd (omega arith)
+  putEach-element (suc n) e h r =
       let q = suc-mul n k in
       ⊎-elim
-      (λ (p : e ≡ n). rw p (elementAt-put (base + n * k) (f n) (W n) k (rw (length-written n) (omega arith))))
-      (λ (p : e < n). elementAt-put-before (base + n * k) (f n) (W n) k k (base + e * k) (omega (arith, within e n k p)) ∙ written-element n e p (omega arith))
+      (λ (p : e ≡ n). rw p (elementAt-put (base + n * k) (f n) (W n) k (rw (length-putEach n) (omega arith))))
+      (λ (p : e < n). elementAt-put-before (base + n * k) (f n) (W n) k k (base + e * k) (omega (arith, within e n k p)) ∙ putEach-element n e p (omega arith))
       (eq-or-lt-of-le (omega arith))
 
 put-append : (k v : ℕ) (p u : List ℕ) (at : ℕ) → length p ≡ at → k ≤ length u → putAt k at v (p ++ u) ≡ p ++ lowBytes k v ++ drop k u
@@ -90,35 +90,35 @@ put-append (suc k) v p u at e h =
     ∙ simp (append-assoc))
 
 -- to write the elements is to splice their vector
-pub written-splice : (f : ℕ → ℕ) (k base n : ℕ) (s : List ℕ) → base + n * k ≤ length s → written f k base n s ≡ splice base (vector f k n) s
-unfolding written vector
-written-splice f k base zero s h = rw (append-nil, add-zero) (sym (take-append-drop base s))
-written-splice f k base (suc n) s h =
+pub putEach-splice : (f : ℕ → ℕ) (k base n : ℕ) (s : List ℕ) → base + n * k ≤ length s → putEach f k base n s ≡ splice base (vector f k n) s
+unfolding putEach vector
+putEach-splice f k base zero s h = rw (append-nil, add-zero) (sym (take-append-drop base s))
+putEach-splice f k base (suc n) s h =
     let q = suc-mul n k in
     let r : base + n * k ≤ length s = omega arith in
     let l = length-take-le base s (omega arith) in
-    rw (written-splice f k base n s r)
+    rw (putEach-splice f k base n s r)
     (put-append k (f n) (take base s ++ vector f k n) (drop (base + length (vector f k n)) s) (base + n * k)
     (rw (length-append, l, length-vector))
     (rw (length-drop, length-vector) (omega arith))
     ∙ rw (drop-drop, length-append, length-lowBytes, length-vector) (simp (append-assoc, add-assoc)))
 
 -- in a buffer of exactly their bytes, what is left is the vector
-written-vector : (f : ℕ → ℕ) (k n : ℕ) (s : List ℕ) → length s ≡ n * k → written f k 0 n s ≡ vector f k n
-written-vector f k n s long =
-    written-splice f k 0 n s (omega arith)
+putEach-vector : (f : ℕ → ℕ) (k n : ℕ) (s : List ℕ) → length s ≡ n * k → putEach f k 0 n s ≡ vector f k n
+putEach-vector f k n s long =
+    putEach-splice f k 0 n s (omega arith)
     ∙ rw (drop-of-length-le s {i = 0 + length (vector f k n)} (rw length-vector (omega arith))) (append-nil _)
 
 -- a loop's end
-pub written-end : (f : ℕ → ℕ) (k e n : ℕ) (s out : List ℕ) → e ≤ n → n ≤ e → length s ≡ n * k → out ≡ written f k 0 e s → out ≡ vector f k n
-written-end f k e n s out h l long eo =
+pub putEach-end : (f : ℕ → ℕ) (k e n : ℕ) (s out : List ℕ) → e ≤ n → n ≤ e → length s ≡ n * k → out ≡ putEach f k 0 e s → out ≡ vector f k n
+putEach-end f k e n s out h l long eo =
     let q : e ≡ n = omega arith in
-    eo ∙ rw q (written-vector f k n s long)
+    eo ∙ rw q (putEach-vector f k n s long)
 
 pub vector-element : (f : ℕ → ℕ) (k n e : ℕ) → e < n → element k (vector f k n) e ≡ f e % 256 ^ k
 vector-element f k n e h =
     let l = length-vector f k n in
-    rw (written-vector f k n (vector f k n) l, zero-add) at (written-element f k 0 (vector f k n) n e h (omega arith))
+    rw (putEach-vector f k n (vector f k n) l, zero-add) at (putEach-element f k 0 (vector f k n) n e h (omega arith))
 
 -- ---- a list is known by its elements
 
@@ -138,8 +138,8 @@ put-self (suc k) at v s b e =
     rw (put-self k at v s b low, high) (set-getD s (at + k) 0)
 
 module _ (f : ℕ → ℕ) (k n : ℕ) (s : List ℕ) (by : Bytes s) (long : length s ≡ n * k) (all : (e : ℕ) → e < n → element k s e ≡ f e) where
-  unmoved : (j : ℕ) → j ≤ n → written f k 0 j s ≡ s
-  unfolding written
+  unmoved : (j : ℕ) → j ≤ n → putEach f k 0 j s ≡ s
+  unfolding putEach
   unmoved zero h = refl
   unmoved (suc j) h =
       let a = all j h in
@@ -148,7 +148,7 @@ module _ (f : ℕ → ℕ) (k n : ℕ) (s : List ℕ) (by : Bytes s) (long : len
 
   -- a list whose elements are f 0 .. f (n - 1) is their vector
   pub vector-known : vector f k n ≡ s
-  vector-known = sym (written-vector f k n s long) ∙ unmoved n (le-refl n)
+  vector-known = sym (putEach-vector f k n s long) ∙ unmoved n (le-refl n)
 
 -- the vector of a list's own elements is the list
 pub vector-own : (k n : ℕ) (s : List ℕ) → Bytes s → length s ≡ n * k → vector (element k s) k n ≡ s

@@ -1,7 +1,7 @@
 ghost use mathlib.Core.Path.{_≡_};
 ghost use Prim.Native.Nat.{_+_, _/_, _%_, _^_, _<_, _≤_};
 ghost use lib.ListN.{length};
-ghost use Rattle.elements.specs.Size.{IsLane};
+ghost use Rattle.elements.specs.Lanes.{IsLane};
 ghost use Rattle.elements.specs.Elements.{elementAt, putAt};
 
 // A byte as a wide number; with its bound, the sums and products of the reads fit.

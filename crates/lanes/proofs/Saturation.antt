@@ -9,15 +9,15 @@ use lib.Pow.{pow-pos}
 use borrow.Author.Tests.{lt-ltb, le-ltb}
 use Rattle.laws.proofs.Tests.{by-lt}
 use Rattle.lanes.specs.Lane.{SInt, low, addSub, clamp, SignedSat, satStep}
-use Rattle.lanes.specs.Signed.{value, signs, limit}
+use Rattle.lanes.specs.Signed.{signedValue, signs, limit}
 use Rattle.lanes.proofs.Signs.{sum-same, sum-ge, sum-le, value-times}
 use Rattle.lanes.proofs.Widths.{two-halves}
 
 -- ---- the sum or difference
 
 -- a ± b, by the sign that b is added with
-add-signed : (subtract : Bool) (z : ℤ) (s : Bool) (m : ℕ) → addSub subtract z (value s m) ≡ z +ℤ value (signs s subtract) m
-unfolding value
+add-signed : (subtract : Bool) (z : ℤ) (s : Bool) (m : ℕ) → addSub subtract z (signedValue s m) ≡ z +ℤ signedValue (signs s subtract) m
+unfolding signedValue
 add-signed false z false m = refl
 add-signed false z true m = refl
 add-signed true z false m = refl
@@ -43,8 +43,8 @@ clamp-neg h m = by-lt h m
     less : (h m : ℕ) → m ≤ h → suc m ≡ min (suc m) (suc h)
     less h m k = omega arith
 
-pub clamp-value : (top : ℕ) → zero < top → (s : Bool) (m : ℕ) → clamp top (value s m) ≡ value s (min m (limit top s))
-unfolding value
+pub clamp-value : (top : ℕ) → zero < top → (s : Bool) (m : ℕ) → clamp top (signedValue s m) ≡ signedValue s (min m (limit top s))
+unfolding signedValue
 clamp-value zero h s m = absurd (omega arith)
 clamp-value (suc top) h false m = clamp-pos top m
 clamp-value (suc top) h true zero = clamp-pos top zero ∙ simp zero-min
@@ -58,7 +58,7 @@ limit-le top true = omega arith
 
 -- the three cases of a sum
 pub clamp-same : (top : ℕ) (s t : Bool) (a b : ℕ) (r : ℤ) → Bool·beq s t ≡ true
-    → r ≡ clamp top (value t (a + b)) → r ≡ clamp top (value s a +ℤ value t b)
+    → r ≡ clamp top (signedValue t (a + b)) → r ≡ clamp top (signedValue s a +ℤ signedValue t b)
 clamp-same top false false a b r e h = h ∙ ap (clamp top) (sym (sum-same false a b))
 clamp-same top false true a b r e h = cc
 clamp-same top true false a b r e h = cc
@@ -71,51 +71,51 @@ other true false e = refl
 other true true e = cc
 
 pub clamp-ge : (top : ℕ) (s t : Bool) (a b : ℕ) (r : ℤ) → Bool·beq s t ≡ false → b ≤ a
-    → r ≡ clamp top (value s (a - b + 0)) → r ≡ clamp top (value s a +ℤ value t b)
+    → r ≡ clamp top (signedValue s (a - b + 0)) → r ≡ clamp top (signedValue s a +ℤ signedValue t b)
 clamp-ge top s t a b r e k h =
     let z : a - b + 0 ≡ a - b = omega arith in
     h
-    ∙ ap (λ (m : ℕ). clamp top (value s m)) z
+    ∙ ap (λ (m : ℕ). clamp top (signedValue s m)) z
     ∙ ap (clamp top) (sym (sum-ge s a b k))
-    ∙ ap (λ (u : Bool). clamp top (value s a +ℤ value u b)) (sym (other s t e))
+    ∙ ap (λ (u : Bool). clamp top (signedValue s a +ℤ signedValue u b)) (sym (other s t e))
 
 pub clamp-le : (top : ℕ) (s t : Bool) (a b : ℕ) (r : ℤ) → Bool·beq s t ≡ false → a ≤ b
-    → r ≡ clamp top (value t (b - a + 0)) → r ≡ clamp top (value s a +ℤ value t b)
+    → r ≡ clamp top (signedValue t (b - a + 0)) → r ≡ clamp top (signedValue s a +ℤ signedValue t b)
 clamp-le top s t a b r e k h =
     let z : b - a + 0 ≡ b - a = omega arith in
     h
-    ∙ ap (λ (m : ℕ). clamp top (value t m)) z
-    ∙ ap (λ (u : Bool). clamp top (value u (b - a))) (other s t e)
+    ∙ ap (λ (m : ℕ). clamp top (signedValue t m)) z
+    ∙ ap (λ (u : Bool). clamp top (signedValue u (b - a))) (other s t e)
     ∙ ap (clamp top) (sym (sum-le s a b k))
-    ∙ ap (λ (u : Bool). clamp top (value s a +ℤ value u b)) (sym (other s t e))
+    ∙ ap (λ (u : Bool). clamp top (signedValue s a +ℤ signedValue u b)) (sym (other s t e))
 
 -- ---- the whole step
 
 twice : (m : ℕ) → m + m ≡ 2 * m
 twice m = omega arith
 
-double : (s : Bool) (m : ℕ) → value s (m + m) ≡ pos 2 *ℤ value s m
-unfolding value
-double false m = ap (value false) (twice m)
-double true m = ap (value true) (twice m) ∙ sym (value-times false true 2 m)
+double : (s : Bool) (m : ℕ) → signedValue s (m + m) ≡ pos 2 *ℤ signedValue s m
+unfolding signedValue
+double false m = ap (signedValue false) (twice m)
+double true m = ap (signedValue true) (twice m) ∙ sym (value-times false true 2 m)
 
 pub sat-is : (lane wide : ℕ) (subtract : Bool) (a x y r h : ℕ) (s t v d sa e : Bool) (p q m dm ma em : ℕ)
     → zero < wide → h ≡ 2 ^ (wide - 1)
-    → value s p ≡ SInt lane x → value t q ≡ SInt lane y → v ≡ signs s t → m ≡ p * q
-    → value d dm ≡ clamp h (value v (m + m))
-    → value sa ma ≡ SInt wide a
-    → value e em ≡ clamp h (value sa ma +ℤ value (signs d subtract) dm) → em ≤ h
-    → r ≡ low wide (pos zero +ℤ value e (em % 2 ^ wide))
+    → signedValue s p ≡ SInt lane x → signedValue t q ≡ SInt lane y → v ≡ signs s t → m ≡ p * q
+    → signedValue d dm ≡ clamp h (signedValue v (m + m))
+    → signedValue sa ma ≡ SInt wide a
+    → signedValue e em ≡ clamp h (signedValue sa ma +ℤ signedValue (signs d subtract) dm) → em ≤ h
+    → r ≡ low wide (pos zero +ℤ signedValue e (em % 2 ^ wide))
     → r ≡ satStep lane wide subtract a x y
 unfolding satStep SignedSat
 sat-is lane wide subtract a x y r h s t v d sa e p q m dm ma em hw eh ex ey ev ep ed ea ee le er =
     let whole : em < 2 ^ wide = omega (arith, two-halves wide hw, pow-pos (wide - 1)) in
     er
-    ∙ ap (λ (k : ℕ). low wide (pos zero +ℤ value e k)) (mod-eq-of-lt whole)
-    ∙ ap (low wide) (+ℤ-idl (value e em) ∙ ee ∙ ap (clamp h) (sym (add-signed subtract (value sa ma) d dm))
-    ∙ ap (λ (z : ℤ). clamp h (addSub subtract z (value d dm))) ea
+    ∙ ap (λ (k : ℕ). low wide (pos zero +ℤ signedValue e k)) (mod-eq-of-lt whole)
+    ∙ ap (low wide) (+ℤ-idl (signedValue e em) ∙ ee ∙ ap (clamp h) (sym (add-signed subtract (signedValue sa ma) d dm))
+    ∙ ap (λ (z : ℤ). clamp h (addSub subtract z (signedValue d dm))) ea
     ∙ ap (λ (z : ℤ). clamp h (addSub subtract (SInt wide a) z)) (ed
     ∙ ap (clamp h) (double v m
-    ∙ ap (λ (z : ℤ). pos 2 *ℤ z) (ap (λ (b : Bool). value b m) ev ∙ ap (value (signs s t)) ep ∙ sym (value-times s t p q)
-    ∙ ap (λ (z : ℤ). z *ℤ value t q) ex ∙ ap (λ (z : ℤ). SInt lane x *ℤ z) ey)))
+    ∙ ap (λ (z : ℤ). pos 2 *ℤ z) (ap (λ (b : Bool). signedValue b m) ev ∙ ap (signedValue (signs s t)) ep ∙ sym (value-times s t p q)
+    ∙ ap (λ (z : ℤ). z *ℤ signedValue t q) ex ∙ ap (λ (z : ℤ). SInt lane x *ℤ z) ey)))
     ∙ ap (λ (k : ℕ). clamp k (addSub subtract (SInt wide a) (clamp k (pos 2 *ℤ (SInt lane x *ℤ SInt lane y))))) eh)

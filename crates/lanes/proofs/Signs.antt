@@ -9,49 +9,49 @@ use lib.IntN.{ℤ, pos, negℤ, _+ℤ_, _*ℤ_, +ℤ-comm, negℤ-+ℤ, negℤ-n
 use lib.Pow.{pow-pos, pow-add}
 use borrow.Author.Tests.{lt-ltb, le-ltb}
 use Rattle.lanes.specs.Lane.{SInt, low}
-use Rattle.lanes.specs.Signed.{value, signs}
+use Rattle.lanes.specs.Signed.{signedValue, signs}
 use Rattle.lanes.proofs.Integers.{minus-ge, low-pos, low-sub}
 
 -- ---- sums of two signs
 
-pub sum-same : (s : Bool) (a b : ℕ) → value s a +ℤ value s b ≡ value s (a + b)
-unfolding value
+pub sum-same : (s : Bool) (a b : ℕ) → signedValue s a +ℤ signedValue s b ≡ signedValue s (a + b)
+unfolding signedValue
 sum-same false a b = refl
 sum-same true a b = sym (negℤ-+ℤ (pos a) (pos b))
 
-pub sum-ge : (s : Bool) (a b : ℕ) → b ≤ a → value s a +ℤ value (not s) b ≡ value s (a - b)
-unfolding value
+pub sum-ge : (s : Bool) (a b : ℕ) → b ≤ a → signedValue s a +ℤ signedValue (not s) b ≡ signedValue s (a - b)
+unfolding signedValue
 sum-ge false a b h = minus-ge a b h
 sum-ge true a b h =
     ap (λ (z : ℤ). negℤ (pos a) +ℤ z) (sym (negℤ-negℤ (pos b)))
     ∙ sym (negℤ-+ℤ (pos a) (negℤ (pos b)))
     ∙ ap negℤ (minus-ge a b h)
 
-pub sum-le : (s : Bool) (a b : ℕ) → a ≤ b → value s a +ℤ value (not s) b ≡ value (not s) (b - a)
+pub sum-le : (s : Bool) (a b : ℕ) → a ≤ b → signedValue s a +ℤ signedValue (not s) b ≡ signedValue (not s) (b - a)
 sum-le s a b h =
-    +ℤ-comm (value s a) (value (not s) b)
-    ∙ ap (λ (t : Bool). value (not s) b +ℤ value t a) (sym (Bool·not-not s))
+    +ℤ-comm (signedValue s a) (signedValue (not s) b)
+    ∙ ap (λ (t : Bool). signedValue (not s) b +ℤ signedValue t a) (sym (Bool·not-not s))
     ∙ sum-ge (not s) b a h
 
 -- ---- reading a signed element
 
 -- the top bit is not set
-pub read-low : (w x h : ℕ) → h ≡ 2 ^ (w - 1) → x < h → value false x ≡ SInt w x
-unfolding SInt value
+pub read-low : (w x h : ℕ) → h ≡ 2 ^ (w - 1) → x < h → signedValue false x ≡ SInt w x
+unfolding SInt signedValue
 read-low w x h eh k = simp (sym (ap (λ (n : ℕ). ltb x n) eh) ∙ lt-ltb x h k)
 
 -- the top bit is set
-pub read-high : (w x h : ℕ) → h ≡ 2 ^ (w - 1) → 2 ^ w ≡ h + h → h ≤ x → x < 2 ^ w → value true (h - (x - h)) ≡ SInt w x
-unfolding SInt value
+pub read-high : (w x h : ℕ) → h ≡ 2 ^ (w - 1) → 2 ^ w ≡ h + h → h ≤ x → x < 2 ^ w → signedValue true (h - (x - h)) ≡ SInt w x
+unfolding SInt signedValue
 read-high w x h eh ew l k =
     let e : h - (x - h) ≡ 2 ^ w - x = omega arith in
     let m : x ≤ 2 ^ w = omega arith in
-    simp (sym (ap (λ (n : ℕ). ltb x n) eh) ∙ le-ltb x h l) (ap (value true) e ∙ sym (sum-le false x (2 ^ w) m))
+    simp (sym (ap (λ (n : ℕ). ltb x n) eh) ∙ le-ltb x h l) (ap (signedValue true) e ∙ sym (sum-le false x (2 ^ w) m))
 
 -- ---- the product
 
-pub value-times : (s t : Bool) (a b : ℕ) → value s a *ℤ value t b ≡ value (signs s t) (a * b)
-unfolding value
+pub value-times : (s t : Bool) (a b : ℕ) → signedValue s a *ℤ signedValue t b ≡ signedValue (signs s t) (a * b)
+unfolding signedValue
 value-times false false a b = refl
 value-times false true a zero = simp mul-zero
 value-times false true a (suc b) = refl
@@ -70,10 +70,10 @@ below j k {a} {b} ha hb =
 -- ---- adding to the accumulator
 
 -- what `wrapping_add_u16` and `wrapping_sub_u16` ensure, and those of 32 and 64 bits
-pub added : (n : ℕ) (s : Bool) (a m r : ℕ) → s ≡ false → r ≡ (a + m) % 2 ^ n → r ≡ low n (pos a +ℤ value s m)
-unfolding value
+pub added : (n : ℕ) (s : Bool) (a m r : ℕ) → s ≡ false → r ≡ (a + m) % 2 ^ n → r ≡ low n (pos a +ℤ signedValue s m)
+unfolding signedValue
 added n s a m r e h = rw e (h ∙ sym (low-pos n (a + m)))
 
-pub subtracted : (n : ℕ) (s : Bool) (a m r : ℕ) → s ≡ true → r < 2 ^ n → (r + m) % 2 ^ n ≡ a → r ≡ low n (pos a +ℤ value s m)
-unfolding value
+pub subtracted : (n : ℕ) (s : Bool) (a m r : ℕ) → s ≡ true → r < 2 ^ n → (r + m) % 2 ^ n ≡ a → r ≡ low n (pos a +ℤ signedValue s m)
+unfolding signedValue
 subtracted n s a m r e h k = rw e (sym (low-sub n a m r h (sym (mod-mod (r + m) (2 ^ n)) ∙ ap (λ (i : ℕ). i % 2 ^ n) k)))

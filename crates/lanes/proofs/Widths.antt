@@ -1,11 +1,11 @@
 -- What the widths of a step are. Assumes nothing.
 use mathlib.Core.Path.{_≡_, refl}
-use mathlib.Core.Logic.{inl, inr, ⊎-elim}
+use mathlib.Core.Logic.{_⊎_, inl, inr, ⊎-elim}
 use Prim.Native.Nat.{ℕ, zero, suc, _+_, _-_, _*_, _^_, _<_, _≤_}
 use native.Mathlib.Nat.{lt-of-lt-of-le}
 use native.Mathlib.Omega.{arith}
 use lib.Pow.{pow-mono}
-use Rattle.elements.specs.Size.{IsLane}
+use Rattle.elements.specs.Lanes.{IsLane}
 use Rattle.elements.proofs.Lanes.{by-lane}
 use Rattle.lanes.specs.Widths.{IsWidth, Widths}
 
@@ -23,7 +23,7 @@ top-le lane l = let h : lane - 1 ≤ 31 = omega (arith, lane-range lane l .1) in
 -- ---- any width
 
 -- what holds of each width holds of any
-by-width : (P : ℕ → Type 0) → P 8 → P 16 → P 32 → P 64 → (n : ℕ) → IsWidth n → P n
+pub by-width : (P : ℕ → Type 0) → P 8 → P 16 → P 32 → P 64 → (n : ℕ) → IsWidth n → P n
 by-width P a b c d n w = ⊎-elim (by-lane P a b c n) (λ (e : n ≡ 64). rw e d) w
 
 pub width-range : (n : ℕ) → IsWidth n → (zero < n) × (n ≤ 64)
@@ -55,3 +55,8 @@ doubled =
     (inl refl, (inl (inr (inl refl)), omega arith))
     (inr (inl refl), (inl (inr (inr refl)), omega arith))
     (inr (inr refl), (inr refl, omega arith))
+
+-- and of four times, which has at most 64
+pub quadrupled : {lane : ℕ} → (lane ≡ 8) ⊎ (lane ≡ 16) → Widths lane (4 * lane)
+quadrupled (inl e) = rw e (inl refl, (inl (inr (inr refl)), omega arith))
+quadrupled (inr e) = rw e (inr (inl refl), (inr refl, omega arith))

@@ -8,7 +8,7 @@ use lib.IntN.{ℤ, pos, negsuc, _+ℤ_, _-ℤ_, _*ℤ_}
 use borrow.Author.Tests.{lt-ltb, le-ltb}
 use Rattle.laws.proofs.Tests.{by-lt}
 use Rattle.lanes.specs.Lane.{SInt, Int, low, product, accumulate, laneStep}
-use Rattle.lanes.specs.Signed.{value, signs}
+use Rattle.lanes.specs.Signed.{signedValue, signs}
 use Rattle.lanes.specs.Widths.{raise}
 use Rattle.lanes.proofs.Integers.{minus-lt, minus-ge, low-lt, low-sub, low-low}
 use Rattle.lanes.proofs.Signs.{sum-ge, sum-le, value-times}
@@ -57,8 +57,8 @@ Less true u v m = v ≡ u + m
 by-less : {P : Type 0} (u v : ℕ) → ((s : Bool) (m : ℕ) → Less s u v m → P) → P
 by-less u v k = by-lt u v (λ l. k true (v - u) (omega arith)) (λ l. k false (u - v) (omega arith))
 
-less-is : (s : Bool) (u v m : ℕ) → Less s u v m → pos u -ℤ pos v ≡ value s m
-unfolding value
+less-is : (s : Bool) (u v m : ℕ) → Less s u v m → pos u -ℤ pos v ≡ signedValue s m
+unfolding signedValue
 less-is false u v m e =
     let l : v ≤ u = omega arith in
     let d : u - v ≡ m = omega arith in
@@ -66,7 +66,7 @@ less-is false u v m e =
 less-is true u v m e =
     let l : u ≤ v = omega arith in
     let d : v - u ≡ m = omega arith in
-    sum-le false u v l ∙ ap (value true) d
+    sum-le false u v l ∙ ap (signedValue true) d
 
 less-times : (s t : Bool) (a b h p q : ℕ) → Less s a h p → Less t b h q → Less (signs s t) (a * b + h * h) (h * (a + b)) (p * q)
 less-times false false a b h p q ea eb = rw (ea, eb) (omega arith)
@@ -108,7 +108,7 @@ product-low lane wide n unsigned x y p h e = ap (λ (m : ℕ). m % 2 ^ wide) e �
 
 -- the step adds or subtracts that product
 pub lane-is : (lane wide : ℕ) (unsigned subtract : Bool) (a x y p r : ℕ) → p ≡ product lane wide unsigned x y
-    → r ≡ low wide (pos a +ℤ value subtract p) → (r ≡ laneStep lane wide unsigned subtract a x y) × (r < 2 ^ wide)
-unfolding laneStep accumulate value
+    → r ≡ low wide (pos a +ℤ signedValue subtract p) → (r ≡ laneStep lane wide unsigned subtract a x y) × (r < 2 ^ wide)
+unfolding laneStep accumulate signedValue
 lane-is lane wide unsigned false a x y p r ep er = (rw (← ep) er, rw er (low-lt wide _))
 lane-is lane wide unsigned true a x y p r ep er = (rw (← ep) er, rw er (low-lt wide _))

@@ -4,9 +4,9 @@ use mathlib.Core.Bool.{Bool, true, false, not, cond, Bool·beq}
 use lib.IntN.{ℤ, pos, negℤ}
 
 -- the integer of that sign (true: negative) and magnitude
-unfoldable pub value : Bool → ℕ → ℤ
-value false m = pos m
-value true m = negℤ (pos m)
+unfoldable pub signedValue : Bool → ℕ → ℤ
+signedValue false m = pos m
+signedValue true m = negℤ (pos m)
 
 -- the sign of a product, and of what is added in place of a number that is subtracted
 abbrev pub signs : Bool → Bool → Bool

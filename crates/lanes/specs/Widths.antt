@@ -3,7 +3,7 @@ use Prim.Native.Nat.{ℕ, _+_, _-_, _^_, _≤_}
 use mathlib.Core.Path.{_≡_}
 use mathlib.Core.Logic.{_⊎_}
 use mathlib.Core.Bool.{Bool, cond}
-use Rattle.elements.specs.Size.{IsLane}
+use Rattle.elements.specs.Lanes.{IsLane}
 
 -- an element has the bits of a lane, or 64
 abbrev pub IsWidth : ℕ → Type 0

@@ -1,15 +1,15 @@
 ghost use mathlib.Core.Path.{_≡_};
 ghost use Prim.Native.Nat.{_+_, _-_, _*_, _%_, _^_, _<_, _≤_, min};
 ghost use lib.IntN.{pos, _+ℤ_};
-ghost use Rattle.elements.specs.Size.{IsLane};
+ghost use Rattle.elements.specs.Lanes.{IsLane};
 ghost use Rattle.lanes.specs.Lane.{SInt, low, product as productPaper, laneStep, clamp, satStep};
-ghost use Rattle.lanes.specs.Signed.{value, signs, limit};
+ghost use Rattle.lanes.specs.Signed.{signedValue, signs, limit};
 ghost use Rattle.lanes.specs.Widths.{IsWidth, Widths, raise};
 
 // The next three: a number of that sign added to the accumulator, by the wrapping sum or difference of its width.
 fn accumulate_16(acc: u64, neg: bool, mag: u64) -> u64
     requires { ⌜ (acc < 2 ^ 16) × (mag < 2 ^ 16) ⌝ }
-    ensures { λ r. ⌜ r ≡ low 16 (pos acc +ℤ value neg mag) ⌝ }
+    ensures { λ r. ⌜ r ≡ low 16 (pos acc +ℤ signedValue neg mag) ⌝ }
 {
     let a = acc as u16;
     let m = mag as u16;
@@ -21,7 +21,7 @@ fn accumulate_16(acc: u64, neg: bool, mag: u64) -> u64
 
 fn accumulate_32(acc: u64, neg: bool, mag: u64) -> u64
     requires { ⌜ (acc < 2 ^ 32) × (mag < 2 ^ 32) ⌝ }
-    ensures { λ r. ⌜ r ≡ low 32 (pos acc +ℤ value neg mag) ⌝ }
+    ensures { λ r. ⌜ r ≡ low 32 (pos acc +ℤ signedValue neg mag) ⌝ }
 {
     let a = acc as u32;
     let m = mag as u32;
@@ -32,7 +32,7 @@ fn accumulate_32(acc: u64, neg: bool, mag: u64) -> u64
 }
 
 fn accumulate_64(acc: u64, neg: bool, mag: u64) -> u64
-    ensures { λ r. ⌜ r ≡ low 64 (pos acc +ℤ value neg mag) ⌝ }
+    ensures { λ r. ⌜ r ≡ low 64 (pos acc +ℤ signedValue neg mag) ⌝ }
 {
     if neg {
         return std::num::wrapping_sub_u64(acc, mag);
@@ -45,7 +45,7 @@ fn accumulate_64(acc: u64, neg: bool, mag: u64) -> u64
 fn accumulate(wide: usize, acc: u64, neg: bool, mag: u64) -> u64
     requires { ⌜ IsWidth wide × (16 ≤ wide) ⌝ }
     requires { ⌜ acc < 2 ^ wide ⌝ }
-    ensures { λ r. ⌜ r ≡ low wide (pos acc +ℤ value neg (mag % 2 ^ wide)) ⌝ }
+    ensures { λ r. ⌜ r ≡ low wide (pos acc +ℤ signedValue neg (mag % 2 ^ wide)) ⌝ }
 {
     match wide {
         16 => accumulate_16(acc, neg, mag % 65536),
@@ -134,7 +134,7 @@ struct Signed {
 fn read(width: usize, x: u64) -> Signed
     requires { ⌜ IsWidth width ⌝ }
     requires { ⌜ x < 2 ^ width ⌝ }
-    ensures { λ r. ⌜ (value (r .neg) (r .mag) ≡ SInt width x) × (r .mag < 2 ^ width) ⌝ }
+    ensures { λ r. ⌜ (signedValue (r .neg) (r .mag) ≡ SInt width x) × (r .mag < 2 ^ width) ⌝ }
 {
     let h = top(width);
     if x < h {
@@ -178,7 +178,7 @@ fn sum_to(most: u64, a: u64, b: u64) -> u64
 // The integer of that sign and of magnitude a + b, clamped to -top and top - 1.
 fn clamp_sum(top: u64, neg: bool, a: u64, b: u64) -> Signed
     requires { ⌜ 0 < top ⌝ }
-    ensures { λ r. ⌜ (value (r .neg) (r .mag) ≡ clamp top (value neg (a + b))) × (r .mag ≤ top) ⌝ }
+    ensures { λ r. ⌜ (signedValue (r .neg) (r .mag) ≡ clamp top (signedValue neg (a + b))) × (r .mag ≤ top) ⌝ }
 {
     Signed {
         neg: neg,
@@ -189,7 +189,7 @@ fn clamp_sum(top: u64, neg: bool, a: u64, b: u64) -> Signed
 // The sum of two integers, clamped. Where the signs differ the larger magnitude gives its own.
 fn clamp_add(top: u64, a: Signed, neg: bool, mag: u64) -> Signed
     requires { ⌜ 0 < top ⌝ }
-    ensures { λ r. ⌜ (value (r .neg) (r .mag) ≡ clamp top (value (a .neg) (a .mag) +ℤ value neg mag)) × (r .mag ≤ top) ⌝ }
+    ensures { λ r. ⌜ (signedValue (r .neg) (r .mag) ≡ clamp top (signedValue (a .neg) (a .mag) +ℤ signedValue neg mag)) × (r .mag ≤ top) ⌝ }
 {
     if a.neg == neg {
         return clamp_sum(top, neg, a.mag, mag);

@@ -19,7 +19,7 @@ use Rattle.words.specs.declared.Family.the-variants.{LongLong, Long}
 use Rattle.words.specs.declared.Fields.{Fields}
 use Rattle.words.proofs.Ranges.{in-family}
 use Rattle.recipes.specs.Recipe.{perSource}
-use Rattle.recipes.proofs.Built.{length-newBytes}
+use Rattle.recipes.proofs.Inside.{length-newBytes}
 use Rattle.elements.specs.Files.{vectorAt, replaced}
 use Rattle.elements.proofs.Files.{Placed, Names, renewed-cong, replaced-renewed}
 use Rattle.machine.specs.Step.{stride, selected, firstVector, someBelow, writesVector, newVector, zaAfter}
@@ -75,14 +75,14 @@ over-numbers w group k x v = go
     go (inr h) = grid (w / group) refl (rw h (omega (arith, v .whole))) (rw h (omega (arith, v .least))) (rw h (omega (arith, v .whole)))
 
 -- the first n of a word's vectors are there, and the new ones are as long
-pub placed-to : (f : Fields) {w stride k first : ℕ} → VectorLength w → Grid w (f .group) stride k first → (z za : List ℕ) → length za ≡ w * w
+pub placed-to : (f : Fields) → Ranges f → {w stride k first : ℕ} → VectorLength w → Grid w (f .group) stride k first → (z za : List ℕ) → length za ≡ w * w
     → (n : ℕ) → n ≤ f .group * k → Placed (place first stride k) (becomes f w first stride k z za) w w n za
 unfolding becomes
-placed-to f {w} v g z za long n h =
+placed-to f ranges {w} v g z za long n h =
     record {
       long = long;
       inside = λ q l. place-lt g q (omega arith);
-      wide = λ q l. length-newBytes _ w _ _ _ (omega (arith, v .whole));
+      wide = λ q l. length-newBytes f ranges _ w _ _ _ (omega (arith, v .whole));
     }
 
 module _ (s : Settings) (v : VectorLength (arrayBytes s)) (f : Fields) (g : Ranges f) (za : IntoZa f) where
@@ -127,7 +127,7 @@ module _ (s : Settings) (v : VectorLength (arrayBytes s)) (f : Fields) (g : Rang
     new = becomes f w (firstVector s f) (stride s f) k z a
 
     pub placed : Placed at new w w (f .group * k) a
-    placed = placed-to f v grid z a long (f .group * k) (omega arith)
+    placed = placed-to f g v grid z a long (f .group * k) (omega arith)
 
     passes-at : (q : ℕ) → q < f .group * k → writesVector s f (at q) ≡ true
     unfolding place

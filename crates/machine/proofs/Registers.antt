@@ -16,8 +16,7 @@ use Rattle.elements.specs.Files.{vectorAt, replaced}
 use Rattle.elements.proofs.Files.{next, room, length-vectorAt, splice-part, replaced-renewed}
 use Rattle.recipes.specs.Recipe.{recipeOf, newLength}
 use Rattle.recipes.specs.Element.{newBytes}
-use Rattle.recipes.proofs.Built.{length-newBytes}
-use Rattle.recipes.proofs.Inside.{new-length}
+use Rattle.recipes.proofs.Inside.{new-length, length-newBytes}
 use Rattle.machine.specs.Step.{register, newRegister, zAfter}
 
 module _ (s : Settings) (v : VectorLength (vectorBytes s)) (f : Fields) (g : Ranges f) (z : List ℕ) (long : length z ≡ 32 * vectorBytes s) where
@@ -32,7 +31,7 @@ module _ (s : Settings) (v : VectorLength (vectorBytes s)) (f : Fields) (g : Ran
 
   -- the new bytes are as many as are due
   pub long-x : length x ≡ n
-  long-x = length-newBytes (recipeOf (f .family) f 0) n _ _ _ (new-length (f .family) w v .0)
+  long-x = length-newBytes f g 0 n _ _ _ (new-length (f .family) w v .0)
 
   fit : (f .destination + 1) * w ≤ length z
   fit = room (f .destination) 32 w z long (g .destination)

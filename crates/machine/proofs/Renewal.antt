@@ -18,11 +18,10 @@ use Rattle.elements.proofs.Vectors.{within}
 use Rattle.elements.proofs.Files.{next, room}
 use Rattle.bits.specs.Replace.{Replaced}
 use Rattle.recipes.specs.Recipe.{Recipe, recipeOf, newLength, perSource}
-use Rattle.recipes.specs.Element.{newBytes}
-use Rattle.recipes.specs.Saturating.{OfC, RegistersThere}
-use Rattle.recipes.proofs.Inside.{Inside, inside}
+use Rattle.recipes.specs.Element.{newBytes, Inside, OfC, RegistersThere}
+use Rattle.recipes.proofs.Inside.{inside}
 use Rattle.recipes.proofs.Built.{newBytes-within}
-use Rattle.machine.specs.Loop.{made, RegisterRenewed, IntoV, IntoZa, Sources, Places}
+use Rattle.machine.specs.Loop.{made, RegisterRenewed, IntoZa, Sources, Places}
 
 -- ZA has 65,536 bytes at most
 array-small : {w : ℕ} → VectorLength w → w * w ≤ 65536
@@ -90,15 +89,13 @@ module _ {f : Fields} {w : ℕ} {z : List ℕ} (p : Sources f w z) where
     of-c = in-family f (p .ranges) Saturating c .1
 
     -- the registers that it takes are there
-    pub step-places : ((f .family ≡ Saturating) × OfC (f .lane)) × RegistersThere (f .lane) (f .part) (f .index) bytes z (f .destination * w) (f .first * w) (f .second * w)
+    pub step-places : ((f .family ≡ Saturating) × OfC (f .lane)) × RegistersThere (recipeOf Saturating f 0) bytes z (f .destination * w) (f .first * w) (f .second * w)
     step-places =
         let g = p .ranges in
         let l = source-lt f g in (
           (c, of-c),
           record {
-            of-two = g .part;
-            in-segment = g .index;
-            whole = omega (arith, p .width .whole);
+            inside = rw eb (rw c at (inside f g w (p .width) 0 first-source));
             old = omega (arith, register-there (f .destination) (g .destination));
             first = omega (arith, register-there (f .first) (l .0));
             second = omega (arith, register-there (f .second) (l .1));
@@ -121,11 +118,6 @@ module _ {f : Fields} {w : ℕ} {z : List ℕ} (p : Sources f w z) where
       step-renewal z′ t e =
           renewal 0 first-source (newLength (f .family) w) refl (f .destination) (f .first) (f .second) z out z′ t
           (e ∙ ap (λ (n : ℕ). newBytes (recipeOf (f .family) f 0) n (drop (f .destination * w) z) (drop (f .first * w) z) (drop (f .second * w) z)) (eb ∙ sym whole-register))
-
--- A and B write 16 bytes
-pub v-length : (f : Fields) (w : ℕ) → IntoV f → newLength (f .family) w ≡ 16
-v-length f w (inl e) = ap (λ (x : Family). newLength x w) e
-v-length f w (inr e) = ap (λ (x : Family). newLength x w) e
 
 -- D and E write whole vectors
 pub whole-vector : {f : Fields} {w : ℕ} {z za : List ℕ} → Places f w z za → newLength (f .family) w ≡ w

@@ -3,149 +3,93 @@ use Prim.Native.Nat.{ℕ, _+_, _-_, _*_, _/_, _%_, _≤_, _<_}
 use native.Mathlib.Omega.{arith}
 use mathlib.Core.Path.{_≡_, refl, sym, ap, _∙_, subst}
 use mathlib.Core.Logic.{_⊎_, inl, inr, ⊎-elim}
-use mathlib.Core.Bool.{Bool, false}
 use mathlib.Core.List.{List}
+use lib.Dec.{lit≤}
 use lib.ListN.{length, drop}
-use Rattle.elements.specs.Size.{bytesOf, IsLane}
-use Rattle.elements.proofs.Elements.{elementAt-drop}
-use Rattle.elements.proofs.Lanes.{by-lane}
-use Rattle.elements.proofs.Vectors.{vector-cong}
+use Rattle.elements.specs.Lanes.{IsLane, each, Reaches}
+use Rattle.elements.proofs.Lanes.{by-lane, chosen-from}
 use Rattle.elements.proofs.Files.{next, room}
 use Rattle.words.specs.Ranges.{Ranges}
 use Rattle.words.specs.declared.Family.{Family}
 use Rattle.words.specs.declared.Family.the-variants.{ByElement, Vector, LongLong, Long}
 use Rattle.words.specs.declared.Fields.{Fields}
 use Rattle.words.proofs.Ranges.{in-family}
-use Rattle.lanes.specs.Lane.{step}
 use Rattle.bits.specs.Replace.{Replaced}
-use Rattle.chunks.specs.Chunk.{strideStep, strideBytes, Reach, OfArray}
-use Rattle.recipes.specs.Recipe.{Recipe, sizeOf, each, halfOf, recipeOf, newLength, perSource}
-use Rattle.recipes.specs.Element.{chosen, newElement, newBytes}
-use Rattle.recipes.proofs.Inside.{bits-of-lane}
-use Rattle.recipes.proofs.Sizes.{bits-of-doubled, bits-of-quadrupled, InBits, bytes-of-wide, bytes-of-lane}
-use Rattle.machine.specs.Loop.{made, RegisterRenewed, IntoV, IntoZa, Sources, Places}
-use Rattle.machine.proofs.Renewal.{source-lt, first-source, register-there, renewal, v-length, whole-vector}
+use Rattle.chunks.specs.Chunk.{evenBytes, Reach, OfArray}
+use Rattle.chunks.proofs.Strides.{even-bytes}
+use Rattle.recipes.specs.Recipe.{wrapping, recipeOf, newLength, perSource}
+use Rattle.recipes.specs.Element.{newBytes, Inside}
+use Rattle.recipes.proofs.Inside.{in-half, half-in, index-in, inside}
+use Rattle.machine.specs.Loop.{made, RegisterRenewed, IntoZa, Sources, Places}
+use Rattle.machine.proofs.Renewal.{source-lt, first-source, register-there, renewal, whole-vector}
 
--- lane, wide, the sign and the operation are the recipe's, and each lane that it takes is where the steps come to
-record Even (r : Recipe) (lane wide : ℕ) (unsigned subtract : Bool) (n x dx m y dy : ℕ) : Type 0 where
-  pub wraps : r .saturating ≡ false
-  pub bits : InBits r lane wide
-  pub signs : r .unsigned ≡ unsigned
-  pub operation : r .subtract ≡ subtract
-  pub first : (e : ℕ) → n + chosen (r .lane) (r .first) e * bytesOf (r .lane) ≡ x + e * dx
-  pub second : (e : ℕ) → m + chosen (r .lane) (r .second) e * bytesOf (r .lane) ≡ y + e * dy
-
-module _ {r : Recipe} {lane wide : ℕ} {unsigned subtract : Bool} {n x dx m y dy : ℕ} (v : Even r lane wide unsigned subtract n x dx m y dy) where
-  module _ (old : List ℕ) (at : ℕ) (z : List ℕ) where
-    even-element : (e : ℕ) → newElement r (drop at old) (drop n z) (drop m z) e ≡ strideStep lane wide unsigned subtract old at z x dx y dy e
-    unfolding newElement strideStep step
-    even-element e =
-        let k : ℕ = bytesOf (r .lane) in
-        let w : ℕ = bytesOf (r .wide) in
-        rw (
-          elementAt-drop w (e * w) at old,
-          elementAt-drop k (chosen (r .lane) (r .first) e * k) n z,
-          elementAt-drop k (chosen (r .lane) (r .second) e * k) m z,
-          v .first e,
-          v .second e,
-          v .wraps,
-          v .signs,
-          v .operation,
-          v .bits .lane-bits,
-          v .bits .wide-bits,
-          bytes-of-lane r lane wide (v .bits),
-          bytes-of-wide r lane wide (v .bits),
-        )
-
-    even-bytes : (bytes : ℕ) → strideBytes lane wide unsigned subtract old at z x dx y dy bytes ≡ newBytes r bytes (drop at old) (drop n z) (drop m z)
-    unfolding strideBytes newBytes
-    even-bytes bytes =
-        let w : ℕ = bytesOf (r .wide) in
-        rw (← bytes-of-wide r lane wide (v .bits))
-        (vector-cong (strideStep lane wide unsigned subtract old at z x dx y dy) (newElement r (drop at old) (drop n z) (drop m z)) w (bytes / w) (λ e h. sym (even-element e)))
+-- the lanes that lie in a register are there, from lane number `from` on
+reach : {f : Fields} {w : ℕ} {z : List ℕ} → Sources f w z → (x from by n y : ℕ) → x < 32 → y ≡ x * w + from * (f .lane / 8)
+    → Reaches (f .lane) (each by from) n w → Reach (f .lane) n z y by
+reach {f} p x from by n y h e r = omega (arith, register-there p x h, chosen-from (f .lane) by from (n - 1))
 
 -- ---- A and B
 
--- the lanes of half Q, and the lane at the index
-half-even : {lane : ℕ} → IsLane lane → (n part e : ℕ) → n + chosen (sizeOf lane) (halfOf part (sizeOf lane)) e * bytesOf (sizeOf lane) ≡ n + part * 8 + e * (lane / 8)
-half-even (inl h) n part e = rw h (omega arith)
-half-even (inr (inl h)) n part e = rw h (omega arith)
-half-even (inr (inr h)) n part e = rw h (omega arith)
-
-index-even : {lane : ℕ} → IsLane lane → (m index e : ℕ) → m + chosen (sizeOf lane) (each 0 index) e * bytesOf (sizeOf lane) ≡ m + index * (lane / 8) + e * (0 * (lane / 8))
-index-even {lane} l m index e = rw (by-lane (λ n. bytesOf (sizeOf n) ≡ n / 8) refl refl refl lane l) (omega arith)
-
--- the lane at the index lies in a register's first 16 bytes, and the lanes of a half end with its 8
-index-in : {lane : ℕ} → IsLane lane → (index : ℕ) → index * lane < 128 → index * (lane / 8) + lane / 8 ≤ 16
-index-in {lane} l index = by-lane (λ n. index * n < 128 → index * (n / 8) + n / 8 ≤ 16) (λ h. omega arith) (λ h. omega arith) (λ h. omega arith) lane l
-
-half-ends : {lane : ℕ} → IsLane lane → (64 / lane - 1) * (1 * (lane / 8)) + lane / 8 ≡ 8
-half-ends {lane} = by-lane (λ n. (64 / n - 1) * (1 * (n / 8)) + n / 8 ≡ 8) refl refl refl lane
+-- a half has 8 bytes
+half-bytes : {lane : ℕ} → IsLane lane → (part : ℕ) → part * 8 ≡ part * (64 / lane) * (lane / 8)
+half-bytes {lane} l part = by-lane (λ n. part * 8 ≡ part * (64 / n) * (n / 8)) (omega arith) (omega arith) (omega arith) lane l
 
 module _ {f : Fields} {w : ℕ} {z : List ℕ} (p : Sources f w z) where
   -- where the code reads, and that it is there
   abbrev At : ℕ
   At = f .destination * w
 
-  abbrev X : ℕ
-  X = f .first * w + f .part * 8
+  -- the lanes of half Q of register x
+  abbrev Half : ℕ → ℕ
+  Half x = x * w + f .part * 8
+
+  abbrev Index : ℕ
+  Index = f .second * w + f .index * (f .lane / 8)
+
+  at-half : (x : ℕ) → Half x ≡ x * w + f .part * (64 / f .lane) * (f .lane / 8)
+  at-half x = ap (λ (n : ℕ). x * w + n) (half-bytes (p .ranges .lane) (f .part))
+
+  half-there : (x : ℕ) → x < 32 → Reach (f .lane) (64 / f .lane) z (Half x) 1
+  half-there x h =
+      rw (in-half (p .ranges .lane))
+      (reach p x _ 1 _ (Half x) h (at-half x) (half-in (f .lane) (p .ranges .lane) w (p .width .least) (f .part) (p .ranges .part)))
 
   pub index-small : f .index * (f .lane / 8) ≤ 16
-  index-small = omega (arith, index-in (p .ranges .lane) (f .index) (p .ranges .index))
+  index-small = omega (arith, index-in (f .lane) (p .ranges .lane) 16 (lit≤ tt) (f .index) 0 (p .ranges .index))
 
-  pub v-places : (At + 16 ≤ length z) × (X + 8 ≤ length z)
-  v-places = (
-    omega (arith, register-there p (f .destination) (p .ranges .destination), p .width .least),
-    omega (arith, register-there p (f .first) (source-lt f (p .ranges) .0), p .width .least, p .ranges .part),
+  pub v-places : At + 16 ≤ length z
+  v-places = omega (arith, register-there p (f .destination) (p .ranges .destination), p .width .least)
+
+  pub index-there : Reach (f .lane) (64 / f .lane) z (Half (f .first)) 1 × Reach (f .lane) (64 / f .lane) z Index 0
+  index-there = (
+    half-there (f .first) (source-lt f (p .ranges) .0),
+    reach p (f .second) (f .index) 0 _ Index (source-lt f (p .ranges) .1) refl (index-in (f .lane) (p .ranges .lane) w (p .width .least) (f .index) _ (p .ranges .index)),
   )
 
-  second-there : f .second * w + 16 ≤ length z
-  second-there = omega (arith, register-there p (f .second) (source-lt f (p .ranges) .1), p .width .least)
+  pub pairs-there : Reach (f .lane) (64 / f .lane) z (Half (f .first)) 1 × Reach (f .lane) (64 / f .lane) z (Half (f .second)) 1
+  pairs-there = (half-there (f .first) (source-lt f (p .ranges) .0), half-there (f .second) (source-lt f (p .ranges) .1))
 
-  pub index-there : Reach (f .lane) (64 / f .lane) z (f .second * w + f .index * (f .lane / 8)) (0 * (f .lane / 8))
-  index-there = omega (arith, index-in (p .ranges .lane) (f .index) (p .ranges .index), second-there)
+  -- the new bytes, where the second source is read from byte y on in steps of `by`
+  abbrev New : ℕ → ℕ → List ℕ
+  New y by = evenBytes (f .lane) (2 * f .lane) (f .unsigned) (f .subtract) z At z (Half (f .first)) 1 y by 16
 
-  pub pairs-there : Reach (f .lane) (64 / f .lane) z (f .second * w + f .part * 8) (1 * (f .lane / 8))
-  pairs-there = omega (arith, half-ends (p .ranges .lane), p .ranges .part, second-there)
+  abbrev Same : ℕ → ℕ → Family → Type 0
+  Same y by family = New y by ≡ newBytes (recipeOf family f 0) (newLength family w) (drop At z) (drop (f .first * w) z) (drop (f .second * w) z)
 
-  v-renewal : IntoV f → (y dy : ℕ) → Even (recipeOf (f .family) f 0) (f .lane) (2 * f .lane) (f .unsigned) (f .subtract) (f .first * w) X (f .lane / 8) (f .second * w) y dy
-      → (z′ : List ℕ) (t : ℕ)
-      → Replaced At t (strideBytes (f .lane) (2 * f .lane) (f .unsigned) (f .subtract) z At z X (f .lane / 8) y dy 16) z z′
-      → RegisterRenewed f w t z z′
-  v-renewal i y dy v z′ t =
-      renewal p 0 (first-source p) (newLength (f .family) w) refl (f .destination) (f .first) (f .second) z _ z′ t
-      (even-bytes v z At z 16
-      ∙ ap (λ (n : ℕ). newBytes (recipeOf (f .family) f 0) n (drop At z) (drop (f .first * w) z) (drop (f .second * w) z)) (sym (v-length f w i)))
+  v-renewal : (family : Family) → f .family ≡ family → (y by : ℕ) → Same y by family
+      → (z′ : List ℕ) (t : ℕ) → Replaced At t (New y by) z z′ → RegisterRenewed f w t z z′
+  v-renewal family e y by same z′ t =
+      renewal p 0 (first-source p) (newLength (f .family) w) refl (f .destination) (f .first) (f .second) z _ z′ t (subst (Same y by) (sym e) same)
 
-  pub by-element : f .family ≡ ByElement → (z′ : List ℕ) (t : ℕ)
-      → Replaced At t (strideBytes (f .lane) (2 * f .lane) (f .unsigned) (f .subtract) z At z X (f .lane / 8) (f .second * w + f .index * (f .lane / 8)) (0 * (f .lane / 8)) 16) z z′
-      → RegisterRenewed f w t z z′
+  pub by-element : f .family ≡ ByElement → (z′ : List ℕ) (t : ℕ) → Replaced At t (New Index 0) z z′ → RegisterRenewed f w t z z′
   by-element e =
-      v-renewal (inl e) _ _
-      (subst (λ (x : Family). Even (recipeOf x f 0) (f .lane) (2 * f .lane) (f .unsigned) (f .subtract) (f .first * w) X (f .lane / 8) (f .second * w) (f .second * w + f .index * (f .lane / 8)) (0 * (f .lane / 8))) (sym e)
-      (record {
-        wraps = refl;
-        bits = record { lane-bits = bits-of-lane (p .ranges .lane); wide-bits = bits-of-doubled (p .ranges .lane) };
-        signs = refl;
-        operation = refl;
-        first = half-even (p .ranges .lane) (f .first * w) (f .part);
-        second = index-even (p .ranges .lane) (f .second * w) (f .index);
-      }))
+      v-renewal ByElement e Index 0
+      (even-bytes (f .lane) (2 * f .lane) (f .unsigned) (f .subtract) 1 _ 0 (f .index) z At z (f .first * w) (f .second * w) _ Index 16 (at-half (f .first)) refl)
 
-  pub by-pairs : f .family ≡ Vector → (z′ : List ℕ) (t : ℕ)
-      → Replaced At t (strideBytes (f .lane) (2 * f .lane) (f .unsigned) (f .subtract) z At z X (f .lane / 8) (f .second * w + f .part * 8) (1 * (f .lane / 8)) 16) z z′
-      → RegisterRenewed f w t z z′
+  pub by-pairs : f .family ≡ Vector → (z′ : List ℕ) (t : ℕ) → Replaced At t (New (Half (f .second)) 1) z z′ → RegisterRenewed f w t z z′
   by-pairs e =
-      v-renewal (inr e) _ _
-      (subst (λ (x : Family). Even (recipeOf x f 0) (f .lane) (2 * f .lane) (f .unsigned) (f .subtract) (f .first * w) X (f .lane / 8) (f .second * w) (f .second * w + f .part * 8) (1 * (f .lane / 8))) (sym e)
-      (record {
-        wraps = refl;
-        bits = record { lane-bits = bits-of-lane (p .ranges .lane); wide-bits = bits-of-doubled (p .ranges .lane) };
-        signs = refl;
-        operation = refl;
-        first = half-even (p .ranges .lane) (f .first * w) (f .part);
-        second = λ e. half-even (p .ranges .lane) (f .second * w) (f .part) e ∙ ap (λ (x : ℕ). f .second * w + f .part * 8 + e * x) (omega arith);
-      }))
+      v-renewal Vector e (Half (f .second)) 1
+      (even-bytes (f .lane) (2 * f .lane) (f .unsigned) (f .subtract) 1 _ 1 _ z At z (f .first * w) (f .second * w) _ _ 16 (at-half (f .first)) (at-half (f .second)))
 
 -- ---- D and E
 
@@ -153,65 +97,33 @@ module _ {f : Fields} {w : ℕ} {z : List ℕ} (p : Sources f w z) where
 abbrev LanesOf : ℕ → ℕ → Type 0
 LanesOf k lane = ((k ≡ 4) × (lane ≡ 8)) ⊎ (((k ≡ 4) × (lane ≡ 16)) ⊎ ((k ≡ 2) × (lane ≡ 16)))
 
-array-lanes : {k lane : ℕ} → LanesOf k lane → OfArray lane (k * lane)
-array-lanes (inl h) = rw (h .0, h .1) (inl (refl, refl))
-array-lanes (inr (inl h)) = rw (h .0, h .1) (inr (inl (refl, refl)))
-array-lanes (inr (inr h)) = rw (h .0, h .1) (inr (inr (refl, refl)))
+-- what holds of each pair holds of any
+by-lanes : (P : ℕ → ℕ → Type 0) → P 4 8 → P 4 16 → P 2 16 → (k lane : ℕ) → LanesOf k lane → P k lane
+by-lanes P a b c k lane (inl h) = rw (h .0, h .1) a
+by-lanes P a b c k lane (inr (inl h)) = rw (h .0, h .1) b
+by-lanes P a b c k lane (inr (inr h)) = rw (h .0, h .1) c
 
-array-even : {k lane : ℕ} → LanesOf k lane → (n i e : ℕ) → n + chosen (sizeOf lane) (each k i) e * bytesOf (sizeOf lane) ≡ n + i * (lane / 8) + e * (k * lane / 8)
-array-even (inl h) n i e = rw (h .0, h .1) (omega arith)
-array-even (inr (inl h)) n i e = rw (h .0, h .1) (omega arith)
-array-even (inr (inr h)) n i e = rw (h .0, h .1) (omega arith)
+lanes-of : (f : Fields) → Ranges f → IntoZa f → (k : ℕ) → k ≡ perSource (f .family) → LanesOf k (f .lane)
+lanes-of f g (inl e) k ek =
+    let four : k ≡ 4 = ek ∙ ap perSource e in
+    ⊎-elim (λ (q : f .lane ≡ 8). inl (four, q)) (λ (q : f .lane ≡ 16). inr (inl (four, q))) (in-family f g LongLong e .1)
+lanes-of f g (inr e) k ek = inr (inr (ek ∙ ap perSource e, in-family f g Long e .1))
 
-array-reach : {k lane : ℕ} → LanesOf k lane → (n i w long : ℕ) → i < k → n + w ≤ long
-    → (i * (lane / 8) ≤ 8) × (k * lane ≤ 64) × (n + i * (lane / 8) + w + lane / 8 ≤ long + k * lane / 8)
-array-reach (inl h) n i w long = rw (h .0, h .1) (λ l q. (omega arith, omega arith, omega arith))
-array-reach (inr (inl h)) n i w long = rw (h .0, h .1) (λ l q. (omega arith, omega arith, omega arith))
-array-reach (inr (inr h)) n i w long = rw (h .0, h .1) (λ l q. (omega arith, omega arith, omega arith))
-
-module _ (f : Fields) (g : Ranges f) (i n m : ℕ) where
-  abbrev EvenArray : Family → ℕ → Type 0
-  EvenArray family k =
-      Even (recipeOf family f i) (f .lane) (k * f .lane) (f .unsigned) (f .subtract) n (n + i * (f .lane / 8)) (k * f .lane / 8) m (m + i * (f .lane / 8)) (k * f .lane / 8)
-
-  even-d : LanesOf 4 (f .lane) → (f .lane ≡ 8) ⊎ (f .lane ≡ 16) → EvenArray LongLong 4
-  even-d h l =
-      record {
-        wraps = refl;
-        bits = record { lane-bits = bits-of-lane (g .lane); wide-bits = bits-of-quadrupled l };
-        signs = refl;
-        operation = refl;
-        first = array-even h n i;
-        second = array-even h m i;
-      }
-
-  even-e : LanesOf 2 (f .lane) → EvenArray Long 2
-  even-e h =
-      record {
-        wraps = refl;
-        bits = record { lane-bits = bits-of-lane (g .lane); wide-bits = bits-of-doubled (g .lane) };
-        signs = refl;
-        operation = refl;
-        first = array-even h n i;
-        second = array-even h m i;
-      }
-
-  -- of the k that the code was told
-  even-array : IntoZa f → (k : ℕ) → k ≡ perSource (f .family) → LanesOf k (f .lane) × EvenArray (f .family) k
-  even-array (inl e) k ek =
-      let o = in-family f g LongLong e in
-      let h : LanesOf 4 (f .lane) = ⊎-elim (λ (q : f .lane ≡ 8). inl (refl, q)) (λ (q : f .lane ≡ 16). inr (inl (refl, q))) (o .1) in
-      subst (λ (c : ℕ). LanesOf c (f .lane) × EvenArray (f .family) c) (sym (ek ∙ ap perSource e)) (h, subst (λ (x : Family). EvenArray x 4) (sym e) (even-d h (o .1)))
-  even-array (inr e) k ek =
-      let h : LanesOf 2 (f .lane) = inr (inr (refl, in-family f g Long e .1)) in
-      subst (λ (c : ℕ). LanesOf c (f .lane) × EvenArray (f .family) c) (sym (ek ∙ ap perSource e)) (h, subst (λ (x : Family). EvenArray x 2) (sym e) (even-e h))
+-- the recipe, by the k that the code was told
+by-k : (f : Fields) → IntoZa f → (k : ℕ) → k ≡ perSource (f .family) → (i : ℕ) → recipeOf (f .family) f i ≡ wrapping f k (each k i) (each k i)
+by-k f (inl e) k ek i = rw (ek ∙ ap perSource e, e)
+by-k f (inr e) k ek i = rw (ek ∙ ap perSource e, e)
 
 module _ {f : Fields} {w : ℕ} {z za : List ℕ} (p : Places f w z za) (k : ℕ) (ek : k ≡ perSource (f .family)) where
   kinds : LanesOf k (f .lane)
-  kinds = even-array f (p .sources .ranges) 0 0 0 (p .into) k ek .0
+  kinds = lanes-of f (p .sources .ranges) (p .into) k ek
 
   pub of-array : OfArray (f .lane) (k * f .lane)
-  of-array = array-lanes kinds
+  of-array = by-lanes (λ k lane. OfArray lane (k * lane)) (inl (refl, refl)) (inr (inl (refl, refl))) (inr (inr (refl, refl))) k (f .lane) kinds
+
+  -- an element has the bits of k lanes
+  steps : k * f .lane / f .lane ≡ k
+  steps = by-lanes (λ k lane. k * lane / lane ≡ k) refl refl refl k (f .lane) kinds
 
   module _ (r i : ℕ) (hr : r < f .group) (hi : i < k) where
     abbrev From : ℕ → ℕ
@@ -220,14 +132,24 @@ module _ {f : Fields} {w : ℕ} {z za : List ℕ} (p : Places f w z za) (k : ℕ
     pub sources-lt : (f .first + r < 32) × (f .second + r < 32)
     sources-lt = (omega (arith, p .sources .ranges .first), omega (arith, p .sources .ranges .second))
 
-    reach : (x : ℕ) → x + r < 32 → (i * (f .lane / 8) ≤ 8) × (k * f .lane ≤ 64) × (From x + w + f .lane / 8 ≤ length z + k * f .lane / 8)
-    reach x h = array-reach kinds ((x + r) * w) i w (length z) hi (register-there (p .sources) (x + r) h)
-
     pub numbers-small : (i * (f .lane / 8) ≤ 8) × (k * f .lane ≤ 64)
-    numbers-small = let q = reach (f .first) (sources-lt .0) in (q .0, q .1)
+    numbers-small =
+        by-lanes (λ k lane. i < k → (i * (lane / 8) ≤ 8) × (k * lane ≤ 64))
+        (λ h. (omega arith, omega arith)) (λ h. (omega arith, omega arith)) (λ h. (omega arith, omega arith)) k (f .lane) kinds hi
 
-    pub lanes-there : (From (f .first) + w + f .lane / 8 ≤ length z + k * f .lane / 8) × (From (f .second) + w + f .lane / 8 ≤ length z + k * f .lane / 8)
-    lanes-there = (reach (f .first) (sources-lt .0) .2, reach (f .second) (sources-lt .1) .2)
+    found : i < perSource (f .family)
+    found = subst (λ (n : ℕ). i < n) ek hi
+
+    in-register : Inside (wrapping f k (each k i) (each k i)) w w
+    in-register = rw (by-k f (p .into) k ek i, whole-vector p) at (inside f (p .sources .ranges) w (p .sources .width) i found)
+
+    pub lanes-there : Reach (f .lane) (8 * w / (k * f .lane)) z (From (f .first)) (k * f .lane / f .lane)
+        × Reach (f .lane) (8 * w / (k * f .lane)) z (From (f .second)) (k * f .lane / f .lane)
+    lanes-there =
+        rw steps (
+          reach (p .sources) (f .first + r) i k _ _ (sources-lt .0) refl (in-register .first),
+          reach (p .sources) (f .second + r) i k _ _ (sources-lt .1) refl (in-register .second),
+        )
 
     module _ (v : ℕ) where
       pub vector-there : v < w → (v * w + w ≤ length za) × (w % 8 ≡ 0) × (w ≤ 65536)
@@ -238,8 +160,9 @@ module _ {f : Fields} {w : ℕ} {z za : List ℕ} (p : Places f w z za) (k : ℕ
       )
 
       pub array-renewal : (za′ : List ℕ) (t : ℕ)
-          → Replaced (v * w) t (strideBytes (f .lane) (k * f .lane) (f .unsigned) (f .subtract) za (v * w) z (From (f .first)) (k * f .lane / 8) (From (f .second)) (k * f .lane / 8) w) za za′
+          → Replaced (v * w) t (evenBytes (f .lane) (k * f .lane) (f .unsigned) (f .subtract) za (v * w) z (From (f .first)) (k * f .lane / f .lane) (From (f .second)) (k * f .lane / f .lane) w) za za′
           → Replaced (v * w) t (made f i w w v za (f .first + r) (f .second + r) z) za za′
       array-renewal za′ t =
-          let e = even-array f (p .sources .ranges) i ((f .first + r) * w) ((f .second + r) * w) (p .into) k ek .1 in
-          renewal (p .sources) i (subst (λ (n : ℕ). i < n) ek hi) w (whole-vector p) v (f .first + r) (f .second + r) za _ za′ t (even-bytes e za (v * w) z w)
+          renewal (p .sources) i found w (whole-vector p) v (f .first + r) (f .second + r) za _ za′ t
+          (rw (by-k f (p .into) k ek i, steps)
+          (even-bytes (f .lane) (k * f .lane) (f .unsigned) (f .subtract) k i k i za (v * w) z ((f .first + r) * w) ((f .second + r) * w) _ _ w refl refl))

@@ -18,7 +18,7 @@ use Rattle.bits.proofs.Bits.{differ-unmoved}
 use Rattle.bits.proofs.Files.{bytes-replaced}
 use Rattle.recipes.specs.Recipe.{recipeOf, perSource}
 use Rattle.recipes.specs.Element.{newBytes}
-use Rattle.recipes.proofs.Built.{length-newBytes}
+use Rattle.recipes.proofs.Inside.{length-newBytes}
 use Rattle.machine.specs.Loop.{made, Grid, place, becomes, Places}
 use Rattle.machine.proofs.Grid.{r-lt, i-lt, place-lt, place-distinct}
 use Rattle.machine.proofs.Array.{group-numbers, two-or-four-vectors, placed-to}
@@ -46,7 +46,7 @@ module _ {f : Fields} {w : ℕ} {z za₀ : List ℕ} (p : Places f w z za₀) {s
   new = becomes f w first stride k z za₀
 
   so-far : (n : ℕ) → n ≤ f .group * k → Placed at new w w n za₀
-  so-far = placed-to f (p .sources .width) g z za₀ (p .za-long)
+  so-far = placed-to f (p .sources .ranges) (p .sources .width) g z za₀ (p .za-long)
 
   -- vector q is as it was until its turn
   not-yet : (q : ℕ) → q < f .group * k → vectorAt w (at q) (replaced at new w q za₀) ≡ vectorAt w (at q) za₀
@@ -74,7 +74,7 @@ module _ {f : Fields} {w : ℕ} {z za₀ : List ℕ} (p : Places f w z za₀) {s
         bits =
             ap₂ _+_ (et ∙ ap (toggled za₀) e) (r .bits ∙ ap₂ toggled e here)
             ∙ sym (ap (toggled za₀) here ∙ bytes-replaced differ differ-unmoved at new w w za₀ q (so-far (suc q) h) (λ i j hi hj. place-distinct g i j (omega arith) (omega arith)));
-        few = omega (arith, r .few, length-newBytes (recipeOf (f .family) f (q % k)) w (vectorAt w (at q) za) (vectorAt w (f .first + q / k) z) (vectorAt w (f .second + q / k) z) (omega (arith, p .sources .width .whole)));
+        few = omega (arith, r .few, length-newBytes f (p .sources .ranges) (q % k) w (vectorAt w (at q) za) (vectorAt w (f .first + q / k) z) (vectorAt w (f .second + q / k) z) (omega (arith, p .sources .width .whole)));
       }
 
   -- of the r and i that the code has

@@ -1,27 +1,22 @@
--- Every element that a recipe takes lies in its register. Assumes nothing.
-use Prim.Native.Nat.{ℕ, _+_, _*_, _/_, _%_, _≤_, _<_}
+-- Every element that a word's recipe takes lies in its register. Assumes nothing.
+use Prim.Native.Nat.{ℕ, _*_, _/_, _%_, _≤_, _<_}
 use native.Mathlib.Omega.{arith}
 use mathlib.Core.Path.{_≡_, refl}
 use mathlib.Core.Logic.{_⊎_, inl, inr}
-use mathlib.Core.Bool.{cond}
-use lib.Dec.{eqb}
-use Rattle.laws.proofs.Tests.{cond-holds}
+use mathlib.Core.List.{List}
+use lib.ListN.{length}
 use Rattle.settings.specs.Lengths.{VectorLength}
 use Rattle.words.specs.Ranges.{Ranges, OfFamily}
 use Rattle.words.specs.declared.Family.{Family}
 use Rattle.words.specs.declared.Family.the-variants.{ByElement, Vector, Saturating, LongLong, Long}
 use Rattle.words.specs.declared.Fields.{Fields}
-use Rattle.elements.specs.Size.{Size, Bits8, Bits16, Bits32, bitsOf, bytesOf, IsLane}
+use Rattle.elements.specs.Lanes.{IsLane, each, eachSegment, Reaches}
 use Rattle.elements.proofs.Lanes.{by-lane}
-use Rattle.recipes.specs.Recipe.{Choice, Recipe, sizeOf, doubled, each, eachSegment, halfOf, recipeOf, newLength, perSource}
-use Rattle.recipes.specs.Element.{chosen}
-
--- every element that goes into the first `bytes` bytes of a vector lies in the w bytes of its register
-pub record Inside (r : Recipe) (bytes w : ℕ) : Type 0 where
-  pub whole : bytes % 8 ≡ 0
-  pub room : bytes ≤ w
-  pub first : (e : ℕ) → e < bytes / bytesOf (r .wide) → chosen (r .lane) (r .first) e * bytesOf (r .lane) + bytesOf (r .lane) ≤ w
-  pub second : (e : ℕ) → e < bytes / bytesOf (r .wide) → chosen (r .lane) (r .second) e * bytesOf (r .lane) + bytesOf (r .lane) ≤ w
+use Rattle.lanes.specs.Widths.{Widths}
+use Rattle.lanes.proofs.Widths.{doubled, quadrupled}
+use Rattle.recipes.specs.Recipe.{recipeOf, newLength, perSource}
+use Rattle.recipes.specs.Element.{newBytes, Inside}
+use Rattle.recipes.proofs.Built.{length-new}
 
 -- the new bytes are whole elements, and no more than the register's
 pub new-length : (family : Family) (w : ℕ) → VectorLength w → (newLength family w % 8 ≡ 0) × (newLength family w ≤ w)
@@ -31,83 +26,76 @@ new-length Saturating w v = (omega (arith, v .whole), omega arith)
 new-length LongLong w v = (omega (arith, v .whole), omega arith)
 new-length Long w v = (omega (arith, v .whole), omega arith)
 
--- what holds of the three sizes of a lane holds of the size of any
-lane-sizes {ℓ} : (P : Size → Type ℓ) → P Bits8 → P Bits16 → P Bits32 → (lane : ℕ) → P (sizeOf lane)
-lane-sizes P a b c lane =
-    cond-holds P (eqb lane 8) Bits8 (cond (eqb lane 16) Bits16 Bits32) (λ _. a) (λ _. cond-holds P (eqb lane 16) Bits16 Bits32 (λ _. b) (λ _. c))
+-- ---- the choices of the families, for every lane: the last element lies in a register of w bytes
 
--- the size of a lane has the lane's bits
-pub bits-of-lane : {lane : ℕ} → IsLane lane → bitsOf (sizeOf lane) ≡ lane
-bits-of-lane {lane} = by-lane (λ n. bitsOf (sizeOf n) ≡ n) refl refl refl lane
+-- 64/lane elements of double width are 128 bits
+pub in-half : {lane : ℕ} → IsLane lane → 64 / lane ≡ 8 * 16 / (2 * lane)
+in-half {lane} = by-lane (λ n. 64 / n ≡ 8 * 16 / (2 * n)) refl refl refl lane
 
--- element e of the vector lies in the register: it ends at byte w or before
-abbrev In : Size → Choice → ℕ → ℕ → Type 0
-In lane c w e = chosen lane c e * bytesOf lane + bytesOf lane ≤ w
+module _ (lane : ℕ) (l : IsLane lane) (w : ℕ) (least : 16 ≤ w) where
+  pub half-in : (part : ℕ) → part < 2 → Reaches lane (each 1 (part * (64 / lane))) (8 * 16 / (2 * lane)) w
+  half-in part p = by-lane (λ n. Reaches n (each 1 (part * (64 / n))) (8 * 16 / (2 * n)) w) (omega arith) (omega arith) (omega arith) lane l
 
--- ---- the choices of the families, for every size of a lane
+  pub index-in : (index n : ℕ) → index * lane < 128 → Reaches lane (each 0 index) n w
+  index-in index n = by-lane (λ b. index * b < 128 → Reaches b (each 0 index) n w) (λ q. omega arith) (λ q. omega arith) (λ q. omega arith) lane l
 
-half-in : (part w e : ℕ) → part < 2 → 16 ≤ w → (lane : ℕ) → e < 16 / bytesOf (doubled (sizeOf lane)) → In (sizeOf lane) (halfOf part (sizeOf lane)) w e
-half-in part w e p h =
-    lane-sizes (λ (s : Size). e < 16 / bytesOf (doubled s) → In s (halfOf part s) w e) (λ q. omega arith) (λ q. omega arith) (λ q. omega arith)
+  twice-in : (part : ℕ) → part < 2 → Reaches lane (each 2 part) (8 * w / (2 * lane)) w
+  twice-in part p = by-lane (λ n. Reaches n (each 2 part) (8 * w / (2 * n)) w) (omega arith) (omega arith) (omega arith) lane l
 
-index-in : (index w e : ℕ) → 16 ≤ w → (lane : ℕ) → index * bitsOf (sizeOf lane) < 128 → In (sizeOf lane) (each 0 index) w e
-index-in index w e h =
-    lane-sizes (λ (s : Size). index * bitsOf s < 128 → In s (each 0 index) w e) (λ q. omega arith) (λ q. omega arith) (λ q. omega arith)
+  segment-in : (index : ℕ) → w % 16 ≡ 0 → index * lane < 128 → Reaches lane (eachSegment 2 index) (8 * w / (2 * lane)) w
+  segment-in index h =
+      by-lane (λ n. index * n < 128 → Reaches n (eachSegment 2 index) (8 * w / (2 * n)) w) (λ q. omega arith) (λ q. omega arith) (λ q. omega arith) lane l
 
-twice-in : (part w e : ℕ) → part < 2 → (lane : ℕ) → e < w / bytesOf (doubled (sizeOf lane)) → In (sizeOf lane) (each 2 part) w e
-twice-in part w e p =
-    lane-sizes (λ (s : Size). e < w / bytesOf (doubled s) → In s (each 2 part) w e) (λ q. omega arith) (λ q. omega arith) (λ q. omega arith)
+fourth-in : {lane : ℕ} → (lane ≡ 8) ⊎ (lane ≡ 16) → (i w : ℕ) → i < 4 → 16 ≤ w → Reaches lane (each 4 i) (8 * w / (4 * lane)) w
+fourth-in (inl l) i w h least = rw l (omega arith)
+fourth-in (inr l) i w h least = rw l (omega arith)
 
-segment-in : (index w e : ℕ) → w % 16 ≡ 0 → (lane : ℕ) → index * bitsOf (sizeOf lane) < 128 → e < w / bytesOf (doubled (sizeOf lane))
-    → In (sizeOf lane) (eachSegment 2 index) w e
-segment-in index w e h =
-    lane-sizes (λ (s : Size). index * bitsOf s < 128 → e < w / bytesOf (doubled s) → In s (eachSegment 2 index) w e) (λ p q. omega arith) (λ p q. omega arith) (λ p q. omega arith)
+-- ---- of every word that is described
 
-fourth-in : (i w e lane : ℕ) → i < 4 → (lane ≡ 8) ⊎ (lane ≡ 16) → e < w / bytesOf (doubled (doubled (sizeOf lane))) → In (sizeOf lane) (each 4 i) w e
-fourth-in i w e lane h (inl l) = rw l (λ q. omega arith)
-fourth-in i w e lane h (inr l) = rw l (λ q. omega arith)
+module _ (f : Fields) (g : Ranges f) where
+  widths-of : (family : Family) → OfFamily family f → (i : ℕ) → Widths (recipeOf family f i .lane) (recipeOf family f i .wide)
+  widths-of ByElement o i = doubled (f .lane) (g .lane)
+  widths-of Vector o i = doubled (f .lane) (g .lane)
+  widths-of Saturating o i = doubled (f .lane) (g .lane)
+  widths-of LongLong o i = quadrupled (o .1)
+  widths-of Long o i = doubled (f .lane) (g .lane)
 
-module _ (f : Fields) (g : Ranges f) (w : ℕ) (v : VectorLength w) where
-  index-bits : f .index * bitsOf (sizeOf (f .lane)) < 128
-  index-bits = rw (bits-of-lane (g .lane)) (g .index)
+  pub widths : (i : ℕ) → Widths (recipeOf (f .family) f i .lane) (recipeOf (f .family) f i .wide)
+  widths = widths-of (f .family) (g .of-family)
 
-  by-family : (family : Family) → OfFamily family f → (i : ℕ) → i < perSource family → Inside (recipeOf family f i) (newLength family w) w
-  by-family ByElement o i h =
-      record {
-        whole = new-length ByElement w v .0;
-        room = new-length ByElement w v .1;
-        first = λ e. half-in (f .part) w e (g .part) (v .least) (f .lane);
-        second = λ e _. index-in (f .index) w e (v .least) (f .lane) index-bits;
-      }
-  by-family Vector o i h =
-      record {
-        whole = new-length Vector w v .0;
-        room = new-length Vector w v .1;
-        first = λ e. half-in (f .part) w e (g .part) (v .least) (f .lane);
-        second = λ e. half-in (f .part) w e (g .part) (v .least) (f .lane);
-      }
-  by-family Saturating o i h =
-      record {
-        whole = new-length Saturating w v .0;
-        room = new-length Saturating w v .1;
-        first = λ e. twice-in (f .part) w e (g .part) (f .lane);
-        second = λ e. segment-in (f .index) w e (v .whole) (f .lane) index-bits;
-      }
-  by-family LongLong o i h =
-      record {
-        whole = new-length LongLong w v .0;
-        room = new-length LongLong w v .1;
-        first = λ e. fourth-in i w e (f .lane) h (o .1);
-        second = λ e. fourth-in i w e (f .lane) h (o .1);
-      }
-  by-family Long o i h =
-      record {
-        whole = new-length Long w v .0;
-        room = new-length Long w v .1;
-        first = λ e. twice-in i w e h (f .lane);
-        second = λ e. twice-in i w e h (f .lane);
-      }
+  pub length-newBytes : (i bytes : ℕ) (old first second : List ℕ) → bytes % 8 ≡ 0 → length (newBytes (recipeOf (f .family) f i) bytes old first second) ≡ bytes
+  length-newBytes i bytes old first second = length-new (recipeOf (f .family) f i) bytes old first second (widths i .1 .0)
 
-  -- of every word that is described: no element too far
-  pub inside : (i : ℕ) → i < perSource (f .family) → Inside (recipeOf (f .family) f i) (newLength (f .family) w) w
-  inside = by-family (f .family) (g .of-family)
+  module _ (w : ℕ) (v : VectorLength w) where
+    -- what the choices of a family have to give
+    given : (family : Family) (i : ℕ) → OfFamily family f
+        → Reaches (recipeOf family f i .lane) (recipeOf family f i .first) (8 * newLength family w / recipeOf family f i .wide) w
+        → Reaches (recipeOf family f i .lane) (recipeOf family f i .second) (8 * newLength family w / recipeOf family f i .wide) w
+        → Inside (recipeOf family f i) (newLength family w) w
+    given family i o first second =
+        record {
+          widths = widths-of family o i;
+          whole = new-length family w v .0;
+          room = new-length family w v .1;
+          first = first;
+          second = second;
+        }
+
+    by-family : (family : Family) → OfFamily family f → (i : ℕ) → i < perSource family → Inside (recipeOf family f i) (newLength family w) w
+    by-family ByElement o i h =
+        given ByElement i o (half-in (f .lane) (g .lane) w (v .least) (f .part) (g .part)) (index-in (f .lane) (g .lane) w (v .least) (f .index) _ (g .index))
+    by-family Vector o i h =
+        let half = half-in (f .lane) (g .lane) w (v .least) (f .part) (g .part) in
+        given Vector i o half half
+    by-family Saturating o i h =
+        given Saturating i o (twice-in (f .lane) (g .lane) w (v .least) (f .part) (g .part)) (segment-in (f .lane) (g .lane) w (v .least) (f .index) (v .whole) (g .index))
+    by-family LongLong o i h =
+        let fourth = fourth-in (o .1) i w h (v .least) in
+        given LongLong i o fourth fourth
+    by-family Long o i h =
+        let twice = twice-in (f .lane) (g .lane) w (v .least) i h in
+        given Long i o twice twice
+
+    -- no element too far
+    pub inside : (i : ℕ) → i < perSource (f .family) → Inside (recipeOf (f .family) f i) (newLength (f .family) w) w
+    inside = by-family (f .family) (g .of-family)

@@ -1,5 +1,4 @@
-pub mod Inside
 pub mod Built
+pub mod Inside
 pub mod Saturating
-pub mod Sizes
 pub mod Undone

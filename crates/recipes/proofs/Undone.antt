@@ -1,5 +1,5 @@
 -- A new vector is undone by the opposite recipe on the same sources, except where products saturate. Assumes nothing.
-use Prim.Native.Nat.{ℕ, _+_, _*_, _/_, _%_, _^_, _≤_, _<_}
+use Prim.Native.Nat.{ℕ, _*_, _/_, _%_, _^_, _≤_, _<_}
 use native.Mathlib.Omega.{arith}
 use mathlib.Core.Path.{_≡_, refl, sym, ap, ap₂, _∙_}
 use mathlib.Core.Bool.{Bool, false, not}
@@ -10,16 +10,16 @@ use Rattle.words.specs.Partner.{turned, isC}
 use Rattle.words.specs.declared.Family.{Family}
 use Rattle.words.specs.declared.Family.the-variants.{ByElement, Vector, Saturating, LongLong, Long}
 use Rattle.words.specs.declared.Fields.{Fields}
-use Rattle.elements.specs.Size.{bitsOf, bytesOf}
-use Rattle.elements.specs.Elements.{element}
+use Rattle.elements.specs.Lanes.{chosen}
+use Rattle.elements.specs.Elements.{elementOf}
 use Rattle.elements.proofs.Elements.{Bytes, Bytes-take, elementAt-lt, elementAt-take}
-use Rattle.elements.proofs.Vectors.{within, vector-known}
+use Rattle.elements.proofs.Vectors.{vector-known}
 use Rattle.lanes.specs.Lane.{step}
+use Rattle.lanes.specs.Widths.{IsWidth}
 use Rattle.lanes.proofs.Laws.{undo-step}
 use Rattle.recipes.specs.Recipe.{Recipe, recipeOf}
-use Rattle.recipes.specs.Element.{chosen, newElement, newBytes}
-use Rattle.recipes.proofs.Built.{whole-elements, length-newBytes}
-use Rattle.recipes.proofs.Sizes.{power, element-newBytes}
+use Rattle.recipes.specs.Element.{newElement, newBytes}
+use Rattle.recipes.proofs.Built.{power, whole-elements, element-ends, length-new, element-newBytes}
 
 -- only products of C saturate
 pub saturates-c : (family : Family) (f : Fields) (i : ℕ) → recipeOf family f i .saturating ≡ isC family
@@ -56,54 +56,52 @@ undo-lane : (saturating : Bool) (lane wide : ℕ) (unsigned subtract : Bool) (a 
 unfolding step
 undo-lane saturating lane wide unsigned subtract a x y e h = rw e (undo-step lane wide unsigned subtract a x y h)
 
-module _ (r : Recipe) (wraps : r .saturating ≡ false) (bytes : ℕ) (whole : bytes % 8 ≡ 0) (old first second : List ℕ) (b : Bytes old)
+module _ (r : Recipe) (wide : IsWidth (r .wide)) (wraps : r .saturating ≡ false) (bytes : ℕ) (whole : bytes % 8 ≡ 0) (old first second : List ℕ) (b : Bytes old)
     (room : bytes ≤ length old) (x : List ℕ) (made : take bytes x ≡ newBytes r bytes old first second) where
   abbrev k : ℕ
-  k = bytesOf (r .wide)
+  k = r .wide / 8
 
-  inside : (e : ℕ) → e < bytes / k → e * k + k ≤ bytes
-  inside e h = omega (arith, within e (bytes / k) k h, whole-elements bytes whole (r .wide))
-
-  undone : (e : ℕ) → e < bytes / k → element k (take bytes old) e ≡ newElement (opposite r) x first second e
+  undone : (e : ℕ) → e < 8 * bytes / r .wide → elementOf (r .wide) (take bytes old) e ≡ newElement (opposite r) x first second e
   unfolding newElement
   undone e h =
-      let was : ℕ = element k old e in
-      let now : element k x e ≡ newElement r old first second e =
-      sym (elementAt-take k (e * k) bytes x (inside e h))
-      ∙ ap (λ (l : List ℕ). element k l e) made
-      ∙ element-newBytes r bytes old first second e h in
-      let small : was < 2 ^ bitsOf (r .wide) = rw (← power (r .wide)) (elementAt-lt k (e * k) old b) in
-      let p : ℕ = element (bytesOf (r .lane)) first (chosen (r .lane) (r .first) e) in
-      let q : ℕ = element (bytesOf (r .lane)) second (chosen (r .lane) (r .second) e) in
-      elementAt-take k (e * k) bytes old (inside e h)
-      ∙ sym (undo-lane (r .saturating) (bitsOf (r .lane)) (bitsOf (r .wide)) (r .unsigned) (r .subtract) was p q wraps small)
-      ∙ ap (λ (a : ℕ). step (r .saturating) (bitsOf (r .lane)) (bitsOf (r .wide)) (r .unsigned) (not (r .subtract)) a p q) (sym now)
+      let was : ℕ = elementOf (r .wide) old e in
+      let ends = element-ends (r .wide) wide bytes whole e h in
+      let now : elementOf (r .wide) x e ≡ newElement r old first second e =
+      sym (elementAt-take k (e * k) bytes x ends)
+      ∙ ap (λ (l : List ℕ). elementOf (r .wide) l e) made
+      ∙ element-newBytes r bytes old first second wide e h in
+      let small : was < 2 ^ r .wide = rw (← power (r .wide) wide) (elementAt-lt k (e * k) old b) in
+      let p : ℕ = elementOf (r .lane) first (chosen (r .lane) (r .first) e) in
+      let q : ℕ = elementOf (r .lane) second (chosen (r .lane) (r .second) e) in
+      elementAt-take k (e * k) bytes old ends
+      ∙ sym (undo-lane (r .saturating) (r .lane) (r .wide) (r .unsigned) (r .subtract) was p q wraps small)
+      ∙ ap (λ (a : ℕ). step (r .saturating) (r .lane) (r .wide) (r .unsigned) (not (r .subtract)) a p q) (sym now)
 
   -- the bytes that were there
   pub undo-newBytes : newBytes (opposite r) bytes x first second ≡ take bytes old
   unfolding newBytes
   undo-newBytes =
-      vector-known (newElement (opposite r) x first second) k (bytes / k) (take bytes old) (Bytes-take bytes old b)
-      (length-take-le bytes old room ∙ sym (whole-elements bytes whole (r .wide))) undone
+      vector-known (newElement (opposite r) x first second) k (8 * bytes / r .wide) (take bytes old) (Bytes-take bytes old b)
+      (length-take-le bytes old room ∙ sym (whole-elements (r .wide) wide bytes whole)) undone
 
 -- the same of a vector whose first bytes are new; `q` is the opposite recipe, and `now`, `first′` and `second′` are what it finds
-pub undo-vector : (r q : Recipe) (bytes : ℕ) (old first second now first′ second′ : List ℕ) → q ≡ opposite r → r .saturating ≡ false → bytes % 8 ≡ 0
-    → Bytes old → bytes ≤ length old → now ≡ newBytes r bytes old first second ++ drop bytes old → first′ ≡ first → second′ ≡ second
+pub undo-vector : (r q : Recipe) (bytes : ℕ) (old first second now first′ second′ : List ℕ) → q ≡ opposite r → IsWidth (r .wide) → r .saturating ≡ false
+    → bytes % 8 ≡ 0 → Bytes old → bytes ≤ length old → now ≡ newBytes r bytes old first second ++ drop bytes old → first′ ≡ first → second′ ≡ second
     → newBytes q bytes now first′ second′ ++ drop bytes now ≡ old
-undo-vector r q bytes old first second now first′ second′ eq wraps whole b room en ef es =
+undo-vector r q bytes old first second now first′ second′ eq wide wraps whole b room en ef es =
     let x : List ℕ = newBytes r bytes old first second in
-    let long : length x ≡ bytes = length-newBytes r bytes old first second whole in
+    let long : length x ≡ bytes = length-new r bytes old first second wide whole in
     rw (eq, en, ef, es)
     (ap₂ _++_
-    (undo-newBytes r wraps bytes whole old first second b room (x ++ drop bytes old) (take-at x (drop bytes old) bytes long))
+    (undo-newBytes r wide wraps bytes whole old first second b room (x ++ drop bytes old) (take-at x (drop bytes old) bytes long))
     (drop-at x (drop bytes old) bytes long)
     ∙ take-append-drop bytes old)
 
 -- and of a vector that is new altogether
-pub undo-whole : (r q : Recipe) (bytes : ℕ) (old first second now : List ℕ) → q ≡ opposite r → r .saturating ≡ false → bytes % 8 ≡ 0
+pub undo-whole : (r q : Recipe) (bytes : ℕ) (old first second now : List ℕ) → q ≡ opposite r → IsWidth (r .wide) → r .saturating ≡ false → bytes % 8 ≡ 0
     → Bytes old → length old ≡ bytes → now ≡ newBytes r bytes old first second → newBytes q bytes now first second ≡ old
-undo-whole r q bytes old first second now eq wraps whole b long en =
+undo-whole r q bytes old first second now eq wide wraps whole b long en =
     let x : List ℕ = newBytes r bytes old first second in
     rw (eq, en)
-    (undo-newBytes r wraps bytes whole old first second b (omega arith) x (take-all bytes x (omega (arith, length-newBytes r bytes old first second whole)))
+    (undo-newBytes r wide wraps bytes whole old first second b (omega arith) x (take-all bytes x (omega (arith, length-new r bytes old first second wide whole)))
     ∙ take-all bytes old (omega arith))

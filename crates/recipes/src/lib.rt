@@ -1,15 +1,15 @@
 // The recipes say of every family which elements go into which, and they are definitions alone. The code here makes C's new register; those of the
 // other families are made eight bytes at a time, by `chunks`.
 ghost use mathlib.Core.Path.{_≡_};
+ghost use mathlib.Core.Bool.{true, false};
 ghost use Prim.Native.Nat.{_+_, _*_, _/_, _^_, _<_, _≤_};
 ghost use lib.ListN.{length, drop};
 ghost use Rattle.elements.specs.Elements.{elementAt, putAt};
 ghost use Rattle.lanes.specs.Lane.{satStep};
 ghost use Rattle.lanes.specs.Widths.{Widths};
 ghost use Rattle.words.specs.declared.Family.the-variants.{Saturating};
-ghost use Rattle.recipes.specs.Recipe.{recipeOf};
-ghost use Rattle.recipes.specs.Element.{newBytes};
-ghost use Rattle.recipes.specs.Saturating.{OfC, satElement, ElementThere, RegistersThere};
+ghost use Rattle.recipes.specs.Recipe.{bySegment, recipeOf};
+ghost use Rattle.recipes.specs.Element.{newElement, newBytes, OfC, ElementThere, RegistersThere};
 use words::Fields;
 
 // An element of `wide` bits after a step, of the old one and of the lanes at bytes x and y. Widths are literals where it is called, so that the
@@ -26,7 +26,7 @@ fn element(lane: usize, wide: usize, subtract: bool, old: u64, z: &[u8], x: usiz
 }
 
 // Element e of the register at byte `at` after a step, of the sources at bytes n and m. Each lane has its own call, in literals.
-fn fresh(
+fn new_element(
     lane: usize,
     part: usize,
     index: usize,
@@ -38,8 +38,8 @@ fn fresh(
     e: usize,
 ) -> u64
     requires { ⌜ OfC lane ⌝ }
-    requires { ⌜ ElementThere lane part index (now z) at n m e ⌝ }
-    ensures { λ r. ⌜ r ≡ satElement lane part index subtract (now (z .entry)) at n m e ⌝ }
+    requires { ⌜ ElementThere (bySegment true false subtract lane part index) (now z) at n m e ⌝ }
+    ensures { λ r. ⌜ r ≡ newElement (bySegment true false subtract lane part index) (drop at (now (z .entry))) (drop n (now (z .entry))) (drop m (now (z .entry))) e ⌝ }
 {
     if lane == 16 {
         let s = e - e % 4;
@@ -70,8 +70,8 @@ fn fresh(
 // Element e of `out`, of twice the lane's bits, becomes `new`.
 fn put(lane: usize, out: &mut [u8], e: usize, new: u64)
     requires { ⌜ OfC lane ⌝ }
-    requires { ⌜ e * (lane / 4) + lane / 4 ≤ length (now out) ⌝ }
-    ensures { λ _. ⌜ now (out .exit) ≡ putAt (lane / 4) (e * (lane / 4)) new (now (out .entry)) ⌝ }
+    requires { ⌜ e * (2 * lane / 8) + 2 * lane / 8 ≤ length (now out) ⌝ }
+    ensures { λ _. ⌜ now (out .exit) ≡ putAt (2 * lane / 8) (e * (2 * lane / 8)) new (now (out .entry)) ⌝ }
 {
     if lane == 16 {
         return elements::put4(out, e * 4, new);
@@ -83,7 +83,7 @@ fn put(lane: usize, out: &mut [u8], e: usize, new: u64)
 // destination changes, which may be one of them.
 pub fn build(fields: Fields, z: &[u8], at: usize, n: usize, m: usize, out: &mut [u8])
     requires { ⌜ (fields .family ≡ Saturating) × OfC (fields .lane) ⌝ }
-    requires { ⌜ RegistersThere (fields .lane) (fields .part) (fields .index) (length (now out)) (now z) at n m ⌝ }
+    requires { ⌜ RegistersThere (recipeOf Saturating fields 0) (length (now out)) (now z) at n m ⌝ }
     ensures { λ _. ⌜ now (out .exit) ≡ newBytes (recipeOf (fields .family) fields 0) (length (now (out .entry))) (drop at (now (z .entry))) (drop n (now (z .entry))) (drop m (now (z .entry))) ⌝ }
 {
     let part = fields.part as usize;
@@ -93,7 +93,7 @@ pub fn build(fields: Fields, z: &[u8], at: usize, n: usize, m: usize, out: &mut 
     let count = out.len() / (lane / 4);
     let mut e: usize = 0;
     while e < count {
-        let new = fresh(lane, part, index, subtract, z, at, n, m, e);
+        let new = new_element(lane, part, index, subtract, z, at, n, m, e);
         put(lane, out, e, new);
         e += 1;
     }

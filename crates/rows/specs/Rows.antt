@@ -1,5 +1,5 @@
 -- Document 01, "Lines to try on the bench": the rows marked P and row 14, as one table, and one statement: each answer is what the definitions give.
-use Prim.Native.Nat.{ℕ, zero, suc}
+use Prim.Native.Nat.{ℕ, zero, suc, _/_}
 use Prim.Native.String.{String}
 use mathlib.Core.Path.{_≡_, refl}
 use mathlib.Core.Bool.{true, false, cond}
@@ -13,7 +13,6 @@ use Rattle.words.specs.Says.{describe}
 use Rattle.words.specs.Decode.{enables, decodeEnabled, decodePaper}
 use Rattle.words.specs.declared.Family.the-variants.{ByElement, Saturating, LongLong}
 use Rattle.words.specs.declared.Fields.{Fields}
-use Rattle.elements.specs.Size.{bitsOf, bytesOf}
 use Rattle.elements.specs.Elements.{elementAt, element, lowBytes, vector}
 use Rattle.elements.specs.Files.{vectorAt, laid, renewed}
 use Rattle.lanes.specs.Lane.{SInt, Int, low, product, accumulate, laneStep, clamp, SignedSat, satStep, step}
@@ -74,8 +73,8 @@ lanesAnswer o =
 abbrev pub laneAnswer : Recipe → ℕ → ℕ → ℕ → Answer
 laneAnswer r a x y =
     let n : ℕ =
-    newElement r (lowBytes (bytesOf (r .wide)) a) (vector (λ e. x) (bytesOf (r .lane)) 8) (vector (λ e. y) (bytesOf (r .lane)) 8) 0 in
-    onelane n (SInt (bitsOf (r .wide)) n)
+    newElement r (lowBytes (r .wide / 8) a) (vector (λ e. x) (r .lane / 8) 8) (vector (λ e. y) (r .lane / 8) 8) 0 in
+    onelane n (SInt (r .wide) n)
 
 -- those of n vectors of 16 bytes that are not zero
 abbrev pub changed : ℕ → List ℕ → List ℕ

@@ -6,7 +6,7 @@ use lib.ListN.{length}
 use lib.Bits.{bitXor}
 use lib.Count.{ones}
 use borrow.Author.Needs.{needs}
-use Rattle.elements.proofs.Vectors.{written}
+use Rattle.elements.proofs.Vectors.{putEach}
 use Rattle.bits.specs.Bits.{toggled}
 use Rattle.bits.proofs.Bits.{toggled-same}
 use Rattle.bits.proofs.Put.{Upto, turn, few-ones, all}
@@ -25,7 +25,7 @@ eight : (c : tie.In-loop Inv-loop μ-loop) → c .before .loop .i + 8 ≤ length
 eight c = omega arith
 
 loop-holds : tie.Need-loop-holds Inv-loop μ-loop
-unfolding written
+unfolding putEach
 loop-holds c = (omega arith, omega arith, refl, sym (toggled-same _), omega arith, refl)
 
 add-read8 : tie.Need-add-read8 Inv-loop μ-loop

@@ -3,16 +3,17 @@ use mathlib.Core.Path.{_≡_, refl, _∙_}
 use Prim.Native.Nat.{_-_, _*_, _≤_}
 use native.Mathlib.Nat.{mul-le-mul-right}
 use native.Mathlib.Omega.{arith}
-use lib.ListN.{length}
+use lib.ListN.{length, drop}
 use borrow.Author.Needs.{needs}
-use Rattle.elements.proofs.Vectors.{written}
-use Rattle.chunks.specs.Chunk.{strideStep}
+use Rattle.elements.proofs.Vectors.{putEach}
+use Rattle.recipes.specs.Element.{newElement}
+use Rattle.chunks.specs.Chunk.{evenly}
 use Rattle.chunks.proofs.Renewed.{own-put, all-put}
 use Rattle.chunks.proofs.eight.Statement.{statement}
 use Rattle.chunks.proofs.eight.Tie as tie
 
 abbrev Inv-loop : tie.InvT-loop
-Inv-loop unsigned subtract z at x y by new₀ e₀ new e = (e ≤ 8) × (new ≡ written (strideStep 8 16 unsigned subtract z at z x 1 y by) 2 0 e new₀) × (length new ≡ 16)
+Inv-loop unsigned subtract z at x y by new₀ e₀ new e = (e ≤ 8) × (new ≡ putEach (newElement (evenly 8 16 unsigned subtract 1 by) (drop at z) (drop x z) (drop y z)) 2 0 e new₀) × (length new ≡ 16)
 
 abbrev μ-loop : tie.MeasureT-loop
 μ-loop unsigned subtract z at x y by new₀ e₀ new e = 8 - e
@@ -25,7 +26,7 @@ second : (c : tie.In-loop Inv-loop μ-loop) → c .before .loop .e * S c .args .
 second c = mul-le-mul-right (S c .args .by) (omega arith)
 
 loop-holds : tie.Need-loop-holds Inv-loop μ-loop
-unfolding written
+unfolding putEach
 loop-holds c = (omega arith, refl, search needs)
 
 mul-element-16 : tie.Need-mul-element-16 Inv-loop μ-loop
@@ -67,7 +68,7 @@ loop-again c =
     let a = S t .args in (
       omega arith,
       own-put (a .unsigned) (a .subtract) (a .z .now) (a .at) (a .x) (a .y) (a .by) (l .e) _ _ _ _ _ (a .new .now) (l .new) _
-          (omega arith) (omega arith) refl (omega arith) (v .element-16 .ensures) (l .inv .1) (p .put2 .ensures),
+          (omega arith) (omega arith) (omega arith) (omega arith) (v .element-16 .ensures) (l .inv .1) (p .put2 .ensures),
       p .put2 .kept .0 ∙ l .inv .2,
     )
 
@@ -77,11 +78,10 @@ same-length c = search needs
 returns : tie.Need-returns Inv-loop μ-loop
 returns c =
     let l = c .before .loop in
-    let k = c .before .before .before in
-    let s = k .before in
+    let s = c .before .before .before .before in
     let a = s .args in
     all-put (a .unsigned) (a .subtract) (a .z .now) (a .at) (a .x) (a .y) (a .by) (l .e) (a .new .now) (l .new)
-    (λ j. k .shared-slice-known .given j .fits) (l .inv .0) (c .loop-test .left) (s .pre .0) (l .inv .1)
+    (l .inv .0) (c .loop-test .left) (s .pre .0) (l .inv .1)
 
 pub eight-spec : {M : Type 1} → statement M
 eight-spec =

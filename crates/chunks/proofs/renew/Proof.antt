@@ -6,18 +6,18 @@ use lib.ListN.{length}
 use lib.Bits.{bitXor}
 use lib.Count.{ones}
 use borrow.Author.Needs.{needs}
-use Rattle.elements.proofs.Vectors.{written}
+use Rattle.elements.proofs.Vectors.{putEach}
 use Rattle.bits.specs.Bits.{toggled}
 use Rattle.bits.proofs.Bits.{toggled-same}
 use Rattle.bits.proofs.Put.{Upto, few-ones}
-use Rattle.chunks.specs.Chunk.{strideBytes}
-use Rattle.chunks.proofs.Renewed.{turned, whole, even-array, array-small, array-reach, array-place}
+use Rattle.chunks.specs.Chunk.{evenBytes, Apart}
+use Rattle.chunks.proofs.Renewed.{turned, whole, even-array, array-step, array-reach, array-place}
 use Rattle.chunks.proofs.renew.Statement.{statement}
 use Rattle.chunks.proofs.renew.Tie as tie
 
 abbrev Inv-loop : tie.InvT-loop
 Inv-loop lane wide unsigned subtract za₀ at z x y bytes t₀ o₀ za t o =
-    (o ≤ bytes) × (o % 8 ≡ 0) × Upto za₀ (strideBytes lane wide unsigned subtract za₀ at z x (wide / 8) y (wide / 8) bytes) at o za × (t ≡ toggled za₀ za) × (t ≤ 8 * o) × (length za ≡ length za₀)
+    (o ≤ bytes) × (o % 8 ≡ 0) × Upto za₀ (evenBytes lane wide unsigned subtract za₀ at z x (wide / lane) y (wide / lane) bytes) at o za × (t ≡ toggled za₀ za) × (t ≤ 8 * o) × (length za ≡ length za₀)
 
 abbrev μ-loop : tie.MeasureT-loop
 μ-loop lane wide unsigned subtract za₀ at z x y bytes t₀ o₀ za t o = bytes - o
@@ -30,7 +30,7 @@ eight : (c : tie.In-loop Inv-loop μ-loop) → c .before .loop .o + 8 ≤ S c .a
 eight c = omega arith
 
 loop-holds : tie.Need-loop-holds Inv-loop μ-loop
-unfolding written
+unfolding putEach
 loop-holds c = (omega arith, omega arith, refl, sym (toggled-same _), omega arith, refl)
 
 add-read8 : tie.Need-add-read8 Inv-loop μ-loop
@@ -39,24 +39,25 @@ add-read8 c = omega (arith, eight (c .before))
 read8-requires : tie.Need-read8-requires Inv-loop μ-loop
 read8-requires c κs = omega (arith, eight (c .before))
 
+-- the lanes of the turn are there
+lanes : (c : tie.In-loop Inv-loop μ-loop)
+    → Apart (S c .args .lane) (64 / S c .args .wide) (S c .args .z .now) (S c .args .x + c .before .loop .o) (S c .args .wide / 8)
+    × Apart (S c .args .lane) (64 / S c .args .wide) (S c .args .z .now) (S c .args .y + c .before .loop .o) (S c .args .wide / 8)
+lanes c =
+    let s = S c in
+    let a = s .args in
+    let o = c .before .loop .o in
+    let there = array-reach (a .lane) (a .wide) (s .pre .0) in
+    (there (a .x) o (a .bytes) _ (s .pre .1 .0 .1 .0) (eight c) (s .pre .1 .1 .0), there (a .y) o (a .bytes) _ (s .pre .1 .0 .1 .0) (eight c) (s .pre .1 .1 .1))
+
 add-array-chunk : tie.Need-add-array-chunk Inv-loop μ-loop
-add-array-chunk c =
-    let t = c .before .before in
-    let s = S t in
-    omega (arith, eight t, array-small (s .args .lane) (s .args .wide) (s .pre .0))
+add-array-chunk c = omega (arith, lanes (c .before .before) .0)
 
 add-array-chunk-2 : tie.Need-add-array-chunk-2 Inv-loop μ-loop
-add-array-chunk-2 c =
-    let t = c .before .before in
-    let s = S t in
-    omega (arith, eight t, array-small (s .args .lane) (s .args .wide) (s .pre .0))
+add-array-chunk-2 c = omega (arith, lanes (c .before .before) .1)
 
 array-chunk-requires : tie.Need-array-chunk-requires Inv-loop μ-loop
-array-chunk-requires c κs =
-    let t = c .before .before in
-    let s = S t in
-    let p = s .pre .1 .1 in
-    (s .pre .0, (array-reach (s .args .lane) (s .args .wide) (s .pre .0) (s .args .x) (t .before .loop .o) (s .args .bytes) _ (eight t) (p .0), array-reach (s .args .lane) (s .args .wide) (s .pre .0) (s .args .y) (t .before .loop .o) (s .args .bytes) _ (eight t) (p .1)))
+array-chunk-requires c κs = (S (c .before .before) .pre .0, lanes (c .before .before))
 
 add-put8 : tie.Need-add-put8 Inv-loop μ-loop
 add-put8 c = omega (arith, eight (c .before .before .before .before))
@@ -89,9 +90,10 @@ loop-again c =
     let k = g .before .before .before in
     let s = k .before in
     let a = s .args in
+    let step = array-step (a .lane) (a .wide) (s .pre .0) in
     let T =
     turned (a .lane) (a .wide) (a .wide / 8) (64 / a .wide) (even-array (a .lane) (a .wide) (s .pre .0)) (a .unsigned) (a .subtract) (a .za .now) (a .at) (a .z .now)
-    (a .x) (a .wide / 8) (a .y) (a .wide / 8) (a .bytes) (λ j. k .slice-known .given j .fits) (s .pre .1 .0 .0) (s .pre .1 .0 .1 .0)
+    (a .x) (a .wide / a .lane) (a .wide / 8) (a .y) (a .wide / a .lane) (a .wide / 8) (a .bytes) step step (λ j. k .slice-known .given j .fits) (s .pre .1 .0 .0) (s .pre .1 .0 .1 .0)
     (l .o) (l .t) (r .read8 .result) (d .array-chunk .result) (a .x + l .o) (a .y + l .o) (l .za) _
     (l .inv .1) (g .loop-test .taken) (l .inv .2) (l .inv .3)
     (array-place (a .lane) (a .wide) (s .pre .0) (a .x) (l .o) (l .inv .1)) (array-place (a .lane) (a .wide) (s .pre .0) (a .y) (l .o) (l .inv .1))
@@ -107,8 +109,9 @@ returns c =
     let k = c .before .before .before in
     let s = k .before in
     let a = s .args in
+    let step = array-step (a .lane) (a .wide) (s .pre .0) in
     whole (a .lane) (a .wide) (a .wide / 8) (64 / a .wide) (even-array (a .lane) (a .wide) (s .pre .0)) (a .unsigned) (a .subtract) (a .za .now) (a .at) (a .z .now)
-    (a .x) (a .wide / 8) (a .y) (a .wide / 8) (a .bytes) (λ j. k .slice-known .given j .fits) (s .pre .1 .0 .0) (s .pre .1 .0 .1 .0)
+    (a .x) (a .wide / a .lane) (a .wide / 8) (a .y) (a .wide / a .lane) (a .wide / 8) (a .bytes) step step (λ j. k .slice-known .given j .fits) (s .pre .1 .0 .0) (s .pre .1 .0 .1 .0)
     (l .o) (l .t) (l .za) (l .inv .1) (l .inv .0) (c .loop-test .left) (l .inv .2) (l .inv .3) (l .inv .4)
 
 pub renew-spec : {M : Type 1} → statement M

@@ -1,7 +1,6 @@
 -- `chunks::renew_v` meets its contract: lanes of 8 bits, and wider ones. Assumes nothing.
 use mathlib.Core.Path.{_≡_}
 use mathlib.Core.Logic.{_⊎_, ⊎-elim}
-use native.Mathlib.Nat.{mul-one}
 use native.Mathlib.Omega.{arith}
 use borrow.Author.Needs.{needs}
 use Rattle.chunks.proofs.renew_v.Statement.{statement}
@@ -12,7 +11,7 @@ renew-eight-requires c κs =
     let t = c .before in
     let s = t .before .before in
     let p = rw (t .if1 .taken) at (s .pre .1 .1) in
-    (s .pre .1 .0 .0, (s .pre .1 .0 .1, omega (arith, p)))
+    (s .pre .1 .0, (omega (arith, p .0), omega (arith, p .1)))
 
 same-length : tie.Need-same-length
 same-length c = search needs
@@ -20,7 +19,7 @@ same-length c = search needs
 returns : tie.Need-returns
 returns c =
     let r = c .before .before in
-    rw (r .before .before .if1 .taken, mul-one) (r .renew-eight .ensures)
+    rw (r .before .before .if1 .taken) (r .renew-eight .ensures)
 
 renew-wider-requires : tie.Need-renew-wider-requires
 renew-wider-requires c κs =

@@ -2,7 +2,7 @@
 use mathlib.Core.Path.{sym, ap, _∙_}
 use Prim.Native.Nat.{_+_, min}
 use native.Mathlib.Omega.{arith}
-use Rattle.lanes.specs.Signed.{value}
+use Rattle.lanes.specs.Signed.{signedValue}
 use Rattle.lanes.proofs.Saturation.{clamp-value, limit-le}
 use borrow.Author.Needs.{needs}
 use Rattle.lanes.proofs.clamp_sum.Statement.{statement}
@@ -18,7 +18,7 @@ returns : tie.Need-returns
 returns c =
     let l = c .before in
     let a = l .before .args in (
-      ap (value (a .neg)) (c .sum-to .ensures ∙ ap (min _) (l .limit-of .ensures)) ∙ sym (clamp-value (a .top) (l .before .pre) (a .neg) (a .a + a .b)),
+      ap (signedValue (a .neg)) (c .sum-to .ensures ∙ ap (min _) (l .limit-of .ensures)) ∙ sym (clamp-value (a .top) (l .before .pre) (a .neg) (a .a + a .b)),
       omega (arith, limit-le (a .top) (a .neg), l .limit-of .ensures, c .sum-to .ensures),
     )
 

@@ -63,7 +63,7 @@ renew-requires c κs =
     let h = s .pre .1 .1 in
     let v = vector-there (s .pre .0) (s .args .k) (s .pre .1 .0) (s .args .r) (s .args .i) (h .1) (h .2) (s .args .v) (h .0) in
     let l = lanes-there (s .pre .0) (s .args .k) (s .pre .1 .0) (s .args .r) (s .args .i) (h .1) (h .2) in
-    (of-array (s .pre .0) (s .args .k) (s .pre .1 .0), ((v .0, (v .1, v .2)), (omega (arith, l), omega (arith, l))))
+    (of-array (s .pre .0) (s .args .k) (s .pre .1 .0), ((v .0, (v .1, v .2)), l))
 
 same-length : tie.Need-same-length
 same-length c = search needs

@@ -1,18 +1,23 @@
--- `recipes::fresh` meets its contract, lane by lane. Assumes nothing.
+-- `recipes::new_element` meets its contract, lane by lane. Assumes nothing.
 use Prim.Native.Nat.{ℕ}
 use mathlib.Core.Path.{_≡_, refl}
+use mathlib.Core.Bool.{true, false}
 use mathlib.Core.Logic.{inl, inr}
 use native.Mathlib.Omega.{arith}
 use borrow.Author.Needs.{needs}
 use Rattle.elements.proofs.Lanes.{wider-lane}
 use Rattle.lanes.proofs.Widths.{doubled}
-use Rattle.recipes.specs.Saturating.{satElement, ElementThere}
-use Rattle.recipes.proofs.fresh.Statement.{statement}
-use Rattle.recipes.proofs.fresh.Tie as tie
+use Rattle.lanes.specs.Lane.{step}
+use Rattle.recipes.specs.Recipe.{bySegment}
+use Rattle.recipes.specs.Element.{ElementThere}
+use Rattle.recipes.proofs.Built.{newElement-at}
+use Rattle.recipes.proofs.new_element.Statement.{statement}
+use Rattle.recipes.proofs.new_element.Tie as tie
 
 -- what there is in lanes of so many bits
 abbrev There : ℕ → tie.Start → Type 0
-There lane s = ElementThere lane (s .args .part) (s .args .index) (s .args .z .now) (s .args .at) (s .args .n) (s .args .m) (s .args .e)
+There lane s =
+    ElementThere (bySegment true false (s .args .subtract) lane (s .args .part) (s .args .index)) (s .args .z .now) (s .args .at) (s .args .n) (s .args .m) (s .args .e)
 
 there-16 : (c : tie.Then1) → There 16 (c .before .before)
 there-16 c = rw (c .if1 .taken) at (c .before .before .pre .1)
@@ -63,8 +68,11 @@ element-requires : tie.Need-element-requires
 element-requires c κs = (doubled 16 (inr (inl refl)), (search needs, (there-16 (c .before) .first, there-16 (c .before) .second)))
 
 returns : tie.Need-returns
-unfolding satElement
-returns c = rw (c .before .before .if1 .taken, ← c .before .lane-at .ensures .0) (c .element .ensures)
+unfolding step
+returns c =
+    let a = c .before .before .before .before .args in
+    rw (c .before .before .if1 .taken, newElement-at (bySegment true false (a .subtract) 16 (a .part) (a .index)) (a .z .now) (a .at) (a .z .now) (a .n) (a .m) (a .e), ← c .before .lane-at .ensures .0)
+    (c .element .ensures)
 
 sub-s-2 : tie.Need-sub-s-2
 sub-s-2 c = search needs
@@ -106,11 +114,14 @@ element-requires-2 : tie.Need-element-requires-2
 element-requires-2 c κs = (doubled 32 (inr (inr refl)), (search needs, (there-32 (c .before) .first, there-32 (c .before) .second)))
 
 returns-2 : tie.Need-returns-2
-unfolding satElement
-returns-2 c = rw (lane-32 (c .before .before), ← c .before .read8 .ensures .0) (c .element2 .ensures)
+unfolding step
+returns-2 c =
+    let a = c .before .before .before .before .args in
+    rw (lane-32 (c .before .before), newElement-at (bySegment true false (a .subtract) 32 (a .part) (a .index)) (a .z .now) (a .at) (a .z .now) (a .n) (a .m) (a .e), ← c .before .read8 .ensures .0)
+    (c .element2 .ensures)
 
-pub fresh-spec : {M : Type 1} → statement M
-fresh-spec =
+pub new-element-spec : {M : Type 1} → statement M
+new-element-spec =
     tie.close
     (tie.spec
     sub-s
