@@ -56,8 +56,8 @@ pub wrote-unique : {t : List ℕ} {at r q : ℕ} {out out₁ out₂ : List ℕ} 
 wrote-unique x y = (x .ends ∙ sym (y .ends), x .bytes ∙ sym (y .bytes))
 
 -- what a caller's `&out[..r]` asks for
-pub end-inside : {t : List ℕ} {at r : ℕ} {out out′ : List ℕ} → Wrote t at out out′ r → (r ≤ length out′) × (r ≡ length (take r out′))
-end-inside {r = r} {out′ = out′} w =
+pub ends-inside : {t : List ℕ} {at r : ℕ} {out out′ : List ℕ} → Wrote t at out out′ r → (r ≤ length out′) × (r ≡ length (take r out′))
+ends-inside {r = r} {out′ = out′} w =
     let inside : r ≤ length out′ = omega (arith, same-room w) in
     (inside, sym (length-take-le r out′ inside))
 

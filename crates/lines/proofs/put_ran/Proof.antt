@@ -1,6 +1,6 @@
 -- `lines::put_ran` meets its contract. Assumes nothing.
 use Rattle.lines.specs.Lines.{wordsLine, totalLine, ranLines}
-use Rattle.lines.proofs.Pieces.{and-then, end-inside}
+use Rattle.lines.proofs.Pieces.{and-then, ends-inside}
 use borrow.Author.Needs.{needs}
 use Rattle.lines.proofs.put_ran.Statement.{statement}
 use Rattle.lines.proofs.put_ran.Tie as tie
@@ -30,7 +30,7 @@ returns c =
     let second = third .before .before .before .before .before in
     let first = second .before .before .before .before in
     let lines = and-then (and-then (first .put-last .ensures .0) (second .put-lines .ensures .0)) (third .put-counts .ensures .0) in
-    (lines, end-inside lines)
+    (lines, ends-inside lines)
 
 pub put-ran-spec : {M : Type 1} → statement M
 put-ran-spec =

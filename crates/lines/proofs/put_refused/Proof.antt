@@ -1,6 +1,6 @@
 -- `lines::put_refused` meets its contract. Assumes nothing.
 use Rattle.lines.specs.Lines.{text, decimal, refusedLine}
-use Rattle.lines.proofs.Pieces.{end-inside}
+use Rattle.lines.proofs.Pieces.{ends-inside}
 use Rattle.lines.proofs.Lines.{and-last}
 use borrow.Author.Needs.{needs}
 use Rattle.lines.proofs.put_refused.Statement.{statement}
@@ -28,7 +28,7 @@ returns c =
     let first = second .before .before .before .before .before in
     let place = first .before .before .before .before .args .place in
     let line = and-last (text " at ") (decimal place) (text "\n") (first .put-number .ensures .0) (second .put-last .ensures .0) in
-    (line, end-inside line)
+    (line, ends-inside line)
 
 pub put-refused-spec : {M : Type 1} → statement M
 put-refused-spec =
