@@ -28,8 +28,8 @@ module _ (s : Settings) (v : validSettings s ≡ true) where
   by-vl : (P : ℕ → Type 0) → P 128 → P 256 → P 512 → P (s .vl)
   by-vl = by-length (s .vl) (valid-parts s v .0)
 
-  vector : VectorLength (s .vl / 8)
-  vector =
+  eighth : VectorLength (s .vl / 8)
+  eighth =
       by-vl (λ vl. VectorLength (vl / 8))
       (record { whole = refl; least = lit≤ tt; most = lit≤ tt })
       (record { whole = refl; least = lit≤ tt; most = lit≤ tt })
@@ -37,11 +37,11 @@ module _ (s : Settings) (v : validSettings s ≡ true) where
 
   pub vector-length : VectorLength (vectorBytes s)
   unfolding vectorBytes
-  vector-length = vector
+  vector-length = eighth
 
   pub array-length : VectorLength (arrayBytes s)
   unfolding arrayBytes
-  array-length = vector
+  array-length = eighth
 
   pub vector-at-most : vectorBytes s ≤ 64
   unfolding vectorBytes
