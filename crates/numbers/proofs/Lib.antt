@@ -3,6 +3,6 @@ pub mod Turns
 pub mod Shortest
 pub mod Places
 pub mod Rows
-pub mod Asked
-pub mod Lent
+pub mod Seven
+pub mod LentReader
 pub mod Forms

@@ -126,7 +126,7 @@ fn next<'s, 'a>(reader: &'s mut Reader<'a>) -> Read
     read
 }
 
-// An answer goes to its place in `out`, if it is a number. The answer here says how a row ends whose last it is.
+// An answer goes to its place in `out`, if it is a number. What is handed back says how a row ends whose last it is.
 fn store(out: &mut [u32], i: usize, read: Read) -> Row
     requires { ⌜ i < length (now out) ⌝ }
     ensures { λ r. ⌜ (r ≡ endOf read) × (now (out .exit) ≡ storedAt read i (now (out .entry))) ⌝ }

@@ -20,7 +20,7 @@ use contract.Monad.{Fun, fact}
 use contract.Running.{givenOf, tables, tablesOf}
 use types.Kit.{Given, ‵, raw, _⊛_, ⋆, some, later, _$_, _∵_, !, qed, by, move, keep, drop, use1, use2, split, join, pick, rewrite, fsplit, fjoin, feqL, suffices, frame, await, done}
 use types.Part.{agg, whole, sub, look-in}
-use types.Run.{look, init, forget, stop, hop, fld, from, load, addr, of-opd, and-then, no-more, assigns, land, returns, enter, alloc1, alloc0, params1, pass1, pass0, free1, free0}
+use types.Run.{look, init, stop, hop, fld, from, load, addr, of-opd, and-then, no-more, assigns, land, returns, enter, alloc1, alloc0, params1, pass1, pass0, free0}
 use sound.WpLaws.{FmC, fmOf, WpFn-mono}
 use denote.RattleType.{RattleType, owns}
 use denote.Laws.{Is, shows}
@@ -43,8 +43,8 @@ use denote.Exit.{yes}
 use Rattle.numbers.specs.Numbers.{numbersAt, rowOf, filled, endOf, storedAt}
 use Rattle.numbers.specs.declared.Reader.{Reader}
 use Rattle.numbers.specs.declared.Row.{Row}
-use Rattle.numbers.proofs.Asked.{Answers, seven}
-use Rattle.numbers.proofs.Lent.{Next, Answer, gone, asks}
+use Rattle.numbers.proofs.Seven.{Answers, seven}
+use Rattle.numbers.proofs.LentReader.{Next, Answer, gone, asks, ends}
 use Rattle.numbers.proofs.Reader as T
 use Rattle.numbers.proofs.Reader.Laws as T′
 use Rattle.numbers.proofs.Read as S
@@ -231,8 +231,8 @@ module _ {M : Type 1} (𝓤 : URA M) (H : Heap 𝓤) (A : Atoms 𝓤) (W : Given
         split ! $ move ! (1 ∷ []) $ heard ! (Stored x₀ x₁ x₂ x₃ x₄ x₅ x₆ r (zs .0)) (λ st. fsplit ! $ fsplit ! $ move ! (1 ∷ []) $ feqL ! (λ l.
         move ! (2 ∷ []) $ split ! $ move ! (1 ∷ []) $ peeks ! P.the-row (Is P.the-row) (shows 𝓤 H A P.the-row) r (y ∷ []) (λ isʳ.
         land ! (from ! (stop !)) (init ! 49 refl (EL.lawful P.the-type P′.the-laws 𝓤 H A W tt .typed r _ isʳ .0)) $
-        returns ! (look ! 49 refl) $ forget ! 4 refl $ forget ! 8 refl $ forget ! 10 refl $ forget ! 12 refl $ forget ! 14 refl $ forget ! 16 refl $ forget ! 18 refl $ forget ! 20 refl $ forget ! 22 refl $ forget ! 24 refl $ forget ! 26 refl $ forget ! 28 refl $ forget ! 30 refl $ forget ! 32 refl $ forget ! 34 refl $ forget ! 36 refl $ forget ! 38 refl $ forget ! 40 refl $ forget ! 43 refl $ forget ! 45 refl $ forget ! 47 refl $ forget ! 49 refl $
-        move ! (49 ∷ 50 ∷ []) $ free1 ! $ move ! (47 ∷ 48 ∷ []) $ free1 ! $ move ! (45 ∷ 46 ∷ []) $ free1 ! $ move ! (43 ∷ 44 ∷ []) $ free1 ! $ move ! (4 ∷ 42 ∷ []) $ free1 ! $ move ! (39 ∷ 40 ∷ []) $ free1 ! $ move ! (37 ∷ 38 ∷ []) $ free1 ! $ move ! (35 ∷ 36 ∷ []) $ free1 ! $ move ! (33 ∷ 34 ∷ []) $ free1 ! $ move ! (31 ∷ 32 ∷ []) $ free1 ! $ move ! (29 ∷ 30 ∷ []) $ free1 ! $ move ! (27 ∷ 28 ∷ []) $ free1 ! $ move ! (25 ∷ 26 ∷ []) $ free1 ! $ move ! (23 ∷ 24 ∷ []) $ free1 ! $ move ! (21 ∷ 22 ∷ []) $ free1 ! $ move ! (19 ∷ 20 ∷ []) $ free1 ! $ move ! (17 ∷ 18 ∷ []) $ free1 ! $ move ! (15 ∷ 16 ∷ []) $ free1 ! $ move ! (13 ∷ 14 ∷ []) $ free1 ! $ move ! (11 ∷ 12 ∷ []) $ free1 ! $ move ! (9 ∷ 10 ∷ []) $ free1 ! $ move ! (7 ∷ 8 ∷ []) $ free1 ! $ free0 ! $
+        returns ! (look ! 49 refl) $
+        move ! (49 ∷ 50 ∷ []) $ ends ! $ move ! (47 ∷ 48 ∷ []) $ ends ! $ move ! (45 ∷ 46 ∷ []) $ ends ! $ move ! (43 ∷ 44 ∷ []) $ ends ! $ move ! (4 ∷ 42 ∷ []) $ ends ! $ move ! (39 ∷ 40 ∷ []) $ ends ! $ move ! (37 ∷ 38 ∷ []) $ ends ! $ move ! (35 ∷ 36 ∷ []) $ ends ! $ move ! (33 ∷ 34 ∷ []) $ ends ! $ move ! (31 ∷ 32 ∷ []) $ ends ! $ move ! (29 ∷ 30 ∷ []) $ ends ! $ move ! (27 ∷ 28 ∷ []) $ ends ! $ move ! (25 ∷ 26 ∷ []) $ ends ! $ move ! (23 ∷ 24 ∷ []) $ ends ! $ move ! (21 ∷ 22 ∷ []) $ ends ! $ move ! (19 ∷ 20 ∷ []) $ ends ! $ move ! (17 ∷ 18 ∷ []) $ ends ! $ move ! (15 ∷ 16 ∷ []) $ ends ! $ move ! (13 ∷ 14 ∷ []) $ ends ! $ move ! (11 ∷ 12 ∷ []) $ ends ! $ move ! (9 ∷ 10 ∷ []) $ ends ! $ move ! (7 ∷ 8 ∷ []) $ ends ! $ free0 ! $
         keep ! (0 ∷ 1 ∷ 2 ∷ 5 ∷ 6 ∷ []) $ by ! (exits x₀ x₁ x₂ x₃ x₄ x₅ x₆ r y (zs .0) (e₀, (e₁, (e₂, (e₃, (e₄, (e₅, (e₆, tt))))))) st l))))))))))))))))))))))))))))))))))))))))
 
 module _ {M : Type 1} (𝓤 : URA M) (H : Heap 𝓤) (A : Atoms 𝓤) (W : Given 𝓤 H A) (mem : Memory → SProp 𝓤) (run : Routine → Fun 𝓤) where

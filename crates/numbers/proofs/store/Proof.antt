@@ -5,7 +5,6 @@ use mathlib.Core.List.{List}
 use borrow.Author.Needs.{needs}
 use Rattle.numbers.specs.Numbers.{endOf, storedAt}
 use Rattle.numbers.specs.declared.Read.{Read}
-use Rattle.numbers.specs.declared.Row.{Row}
 use Rattle.numbers.proofs.store.Statement.{statement}
 use Rattle.numbers.proofs.store.Tie as tie
 

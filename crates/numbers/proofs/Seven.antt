@@ -1,14 +1,12 @@
 -- A reader that is asked again and again goes over a row: each answer is the row's next number, and from a fault on the fault. Assumes nothing.
-use Prim.Native.Nat.{ℕ, suc, _+_, _<_}
-use mathlib.Core.Path.{_≡_, refl, sym, subst, ap, ap₂, _∙_}
+use Prim.Native.Nat.{ℕ, suc, _<_}
+use mathlib.Core.Path.{_≡_, refl, sym, subst, ap, _∙_}
 use mathlib.Core.List.{List, [], _∷_, _++_, append-assoc}
 use native.Mathlib.Omega.{arith}
 use lib.ListN.{length, getD, drop, set, length-append}
 use lib.Seq.{drop-cons, set-at}
-use Rattle.settings.specs.declared.Refusal.{Refusal}
 use Rattle.numbers.specs.declared.Read.{Read}
 use Rattle.numbers.specs.declared.Read.the-variants.{Number, Fault}
-use Rattle.numbers.specs.declared.Row.the-variants as row
 use Rattle.numbers.specs.Numbers.{numberAt, Numbers, all, fault, followedBy, more, numbersAt, valuesOf, rowOf, filled, placeAfter, endOf, storedAt}
 
 -- where the reader stands once a row of n numbers was asked for: behind them, or where it answers the row's fault again
