@@ -9,36 +9,34 @@ use lib.Dec.{lit<}
 use lib.ListN.{length, drop}
 use lib.Bits.{bitXor}
 use lib.Count.{ones}
-use Rattle.elements.specs.Elements.{elementAt, putAt, vector}
+use Rattle.elements.specs.Elements.{elementAt, putAt}
 use Rattle.elements.specs.Lanes.{IsLane, each, chosenAt}
 use Rattle.elements.proofs.Elements.{Bytes, elementAt-same, elementAt-put-after}
 use Rattle.elements.proofs.Lanes.{by-lane}
-use Rattle.elements.proofs.Vectors.{putEach, putEach-turn, putEach-end, Bytes-vector}
+use Rattle.elements.proofs.Vectors.{putEach, putEach-turn, putEach-end}
 use Rattle.lanes.specs.Lane.{laneStep, step}
+use Rattle.lanes.specs.Widths.{IsWidth}
 use Rattle.bits.specs.Bits.{toggled}
 use Rattle.bits.specs.Replace.{Replaced}
 use Rattle.bits.proofs.Bits.{toggled-same}
 use Rattle.bits.proofs.Put.{Upto, Turned, few-ones, untouched, turn, all}
 use Rattle.recipes.specs.Element.{newElement, newBytes}
-use Rattle.recipes.proofs.Built.{newElement-at}
+use Rattle.recipes.proofs.Built.{newElement-at, length-new, Bytes-newBytes}
 use Rattle.chunks.specs.Chunk.{evenly, evenBytes, chunk, OfArray}
 use Rattle.chunks.proofs.Parts.{by-array}
-use Rattle.chunks.proofs.Strides.{Even, even-16, even-32, even-64, chunk-at, bytes-are, bytes-long}
+use Rattle.chunks.proofs.Strides.{chunk-at}
 
-module _ (lane wide w per : ℕ) (ev : Even wide w per) (u s : Bool) (old : List ℕ) (at : ℕ) (z : List ℕ) (x sx dx y sy dy bytes : ℕ) (edx : dx ≡ sx * (lane / 8))
+module _ (lane wide : ℕ) (iw : IsWidth wide) (u s : Bool) (old : List ℕ) (at : ℕ) (z : List ℕ) (x sx dx y sy dy bytes : ℕ) (edx : dx ≡ sx * (lane / 8))
     (edy : dy ≡ sy * (lane / 8)) (by : Bytes old) (fit : at + bytes ≤ length old) (eights : bytes % 8 ≡ 0) where
   abbrev New : List ℕ
   New = evenBytes lane wide u s old at z x sx y sy bytes
 
-  are : New ≡ vector (newElement (evenly lane wide u s sx sy) (drop at old) (drop x z) (drop y z)) w (bytes / 8 * per)
-  are = bytes-are lane wide w per ev u s old at z x sx dx y sy dy edx edy by (bytes / 8) bytes (omega arith)
-
   long : length New ≡ bytes
-  long = bytes-long lane wide w per ev u s old at z x sx dx y sy dy edx edy by (bytes / 8) bytes (omega arith)
+  long = length-new (evenly lane wide u s sx sy) bytes (drop at old) (drop x z) (drop y z) iw eights
 
   -- one turn, from what its calls ensure
   pub turned : (o t before after px py : ℕ) (file file′ : List ℕ) → o % 8 ≡ 0 → o < bytes → Upto old New at o file → t ≡ toggled old file
-      → px ≡ x + chosenAt lane (each sx 0) (o / 8 * per) → py ≡ y + chosenAt lane (each sy 0) (o / 8 * per)
+      → px ≡ x + chosenAt lane (each sx 0) (o / 8 * (64 / wide)) → py ≡ y + chosenAt lane (each sy 0) (o / 8 * (64 / wide))
       → before ≡ elementAt 8 (at + o) file → after ≡ chunk lane wide u s before z px dx py dy → before < 2 ^ 64 → after < 2 ^ 64 → file′ ≡ putAt 8 (at + o) after file
       → Turned old New at o t (ones (bitXor before after)) file′
   turned o t before after px py file file′ h q up et ex ey eb ea lb la ef =
@@ -48,20 +46,17 @@ module _ (lane wide w per : ℕ) (ev : Even wide w per) (u s : Bool) (old : List
       eb ∙ elementAt-same 8 (at + o) (at + o) file old (λ j _. untouched old New at o file up j) ∙ ap (λ (k : ℕ). elementAt 8 (at + k) old) (sym oc) in
       let new : after ≡ elementAt 8 o New =
       ea
-      ∙ chunk-at lane wide w per ev u s old at z x sx dx y sy dy edx edy by c (bytes / 8) before px py (omega arith) own ex ey
-      ∙ ap (elementAt 8 (8 * c)) (sym are)
+      ∙ chunk-at lane wide iw u s old at z x sx dx y sy dy edx edy by c bytes before px py (omega arith) own ex ey
       ∙ ap (λ (k : ℕ). elementAt 8 k New) oc in
       turn old New at (rw long fit) (rw long eights) o t before after file file′ by h (rw long q) up et eb new lb la ef
 
   -- the end
   pub whole : (o t : ℕ) (file : List ℕ) → o % 8 ≡ 0 → o ≤ bytes → bytes ≤ o → Upto old New at o file → t ≡ toggled old file → t ≤ 8 * o → Replaced at t New old file
   whole o t file h l m up et few =
-      all old New at (rw long fit) (rw long eights) o t file
-      (rw are (Bytes-vector _ _ _))
-      h (rw long l) (rw long m) up et few
+      all old New at (rw long fit) (rw long eights) o t file (Bytes-newBytes (evenly lane wide u s sx sy) bytes _ _ _) h (rw long l) (rw long m) up et few
 
 -- 16 bytes, of which all is read before any is written
-module _ (lane wide w per : ℕ) (ev : Even wide w per) (u s : Bool) (z : List ℕ) (at x sx dx y sy dy : ℕ) (edx : dx ≡ sx * (lane / 8))
+module _ (lane wide : ℕ) (iw : IsWidth wide) (u s : Bool) (z : List ℕ) (at x sx dx y sy dy : ℕ) (edx : dx ≡ sx * (lane / 8))
     (edy : dy ≡ sy * (lane / 8)) (by : Bytes z) (fit : at + 16 ≤ length z) where
   abbrev NewV : List ℕ
   NewV = evenBytes lane wide u s z at z x sx y sy 16
@@ -70,24 +65,24 @@ module _ (lane wide w per : ℕ) (ev : Even wide w per) (u s : Bool) (z : List �
   unfolding putEach
   start = refl
 
-  pub both-turns : (before after before′ after′ px py : ℕ) (z1 z2 : List ℕ) → px ≡ x + chosenAt lane (each sx 0) (8 / 8 * per)
-      → py ≡ y + chosenAt lane (each sy 0) (8 / 8 * per) → before ≡ elementAt 8 at z → before′ ≡ elementAt 8 (at + 8) z
+  pub both-turns : (before after before′ after′ px py : ℕ) (z1 z2 : List ℕ) → px ≡ x + chosenAt lane (each sx 0) (8 / 8 * (64 / wide))
+      → py ≡ y + chosenAt lane (each sy 0) (8 / 8 * (64 / wide)) → before ≡ elementAt 8 at z → before′ ≡ elementAt 8 (at + 8) z
       → after ≡ chunk lane wide u s before z x dx y dy → after′ ≡ chunk lane wide u s before′ z px dx py dy
       → before < 2 ^ 64 → after < 2 ^ 64 → before′ < 2 ^ 64 → after′ < 2 ^ 64
       → z1 ≡ putAt 8 at after z → z2 ≡ putAt 8 (at + 8) after′ z1
       → Replaced at (ones (bitXor before after) + ones (bitXor before′ after′)) NewV z z2
   both-turns before after before′ after′ px py z1 z2 ex ey eb eb′ ea ea′ lb la lb′ la′ e1 e2 =
-      let none : (k d : ℕ) → k ≡ k + chosenAt lane (each d 0) (0 / 8 * per) = λ k d. omega arith in
+      let none : (k d : ℕ) → k ≡ k + chosenAt lane (each d 0) (0 / 8 * (64 / wide)) = λ k d. omega arith in
       let T =
-      turned lane wide w per ev u s z at z x sx dx y sy dy 16 edx edy by fit refl 0 0 before after x y z z1 refl (lit< tt) start (sym (toggled-same z)) (none x sx) (none y sy)
+      turned lane wide iw u s z at z x sx dx y sy dy 16 edx edy by fit refl 0 0 before after x y z z1 refl (lit< tt) start (sym (toggled-same z)) (none x sx) (none y sy)
       (eb ∙ ap (λ (k : ℕ). elementAt 8 k z) (sym (add-zero at))) ea lb la (e1 ∙ ap (λ (k : ℕ). putAt 8 k after z) (sym (add-zero at))) in
       let kept : before′ ≡ elementAt 8 (at + 8) z1 = eb′ ∙ sym (ap (elementAt 8 (at + 8)) e1 ∙ elementAt-put-after at after z 8 8 (at + 8) (omega arith)) in
       let R =
-      turned lane wide w per ev u s z at z x sx dx y sy dy 16 edx edy by fit refl 8 (0 + ones (bitXor before after)) before′ after′ px py z1 z2 refl (lit< tt) (T .upto) (T .bits) ex ey
+      turned lane wide iw u s z at z x sx dx y sy dy 16 edx edy by fit refl 8 (0 + ones (bitXor before after)) before′ after′ px py z1 z2 refl (lit< tt) (T .upto) (T .bits) ex ey
       kept ea′ lb′ la′ e2 in
       let few = few-ones before after lb la in
       let few′ = few-ones before′ after′ lb′ la′ in
-      rw zero-add at (whole lane wide w per ev u s z at z x sx dx y sy dy 16 edx edy by fit refl 16 _ z2 refl (omega arith) (omega arith) (R .upto) (R .bits) (omega arith))
+      rw zero-add at (whole lane wide iw u s z at z x sx dx y sy dy 16 edx edy by fit refl 16 _ z2 refl (omega arith) (omega arith) (R .upto) (R .bits) (omega arith))
 
 -- ---- elements of 16 bits
 
@@ -110,22 +105,9 @@ module _ (u s : Bool) (z : List ℕ) (at x y sy : ℕ) where
 
 -- ---- the lanes of words that write ZA
 
-pub even-array : (lane wide : ℕ) → OfArray lane wide → Even wide (wide / 8) (64 / wide)
-even-array = by-array (λ lane wide. Even wide (wide / 8) (64 / wide)) even-32 even-64 even-32
-
 -- a source has for each element as many bytes as the element has
 pub array-step : (lane wide : ℕ) → OfArray lane wide → wide / 8 ≡ wide / lane * (lane / 8)
 array-step = by-array (λ lane wide. wide / 8 ≡ wide / lane * (lane / 8)) refl refl refl
-
--- the lanes of the chunk o bytes on are there
-pub array-reach : (lane wide : ℕ) → OfArray lane wide → (x o bytes n : ℕ) → bytes % 8 ≡ 0 → o + 8 ≤ bytes → x + chosenAt lane (each (wide / lane) 0) (8 * bytes / wide - 1) + lane / 8 ≤ n
-    → x + o + (64 / wide - 1) * (wide / 8) + lane / 8 ≤ n
-array-reach =
-    by-array
-    (λ lane wide. (x o bytes n : ℕ) → bytes % 8 ≡ 0 → o + 8 ≤ bytes → x + chosenAt lane (each (wide / lane) 0) (8 * bytes / wide - 1) + lane / 8 ≤ n → x + o + (64 / wide - 1) * (wide / 8) + lane / 8 ≤ n)
-    (λ x o bytes n q h k. omega arith)
-    (λ x o bytes n q h k. omega arith)
-    (λ x o bytes n q h k. omega arith)
 
 -- the chunk o bytes on begins at the same distance in a source
 pub array-place : (lane wide : ℕ) → OfArray lane wide → (x o : ℕ) → o % 8 ≡ 0 → x + o ≡ x + chosenAt lane (each (wide / lane) 0) (o / 8 * (64 / wide))
@@ -137,19 +119,7 @@ array-place =
 
 -- ---- the lanes of words that write a V register
 
-pub even-v : (lane : ℕ) → IsLane lane → Even (2 * lane) (2 * lane / 8) (64 / (2 * lane))
-even-v = by-lane (λ lane. Even (2 * lane) (2 * lane / 8) (64 / (2 * lane))) even-16 even-32 even-64
-
--- both chunks have their lanes, which begin d bytes from one another
-pub record VPlaces (lane n x sx d : ℕ) : Type 0 where
-  pub step : sx * (lane / 8) ≤ n
-  pub low : x + (32 / lane - 1) * (sx * (lane / 8)) + lane / 8 ≤ n
-  pub high : x + d + (32 / lane - 1) * (sx * (lane / 8)) + lane / 8 ≤ n
-  pub place : x + d ≡ x + chosenAt lane (each sx 0) (8 / 8 * (64 / (2 * lane)))
-
-pub v-places : (lane : ℕ) → IsLane lane → (n x sx : ℕ) → x + chosenAt lane (each sx 0) (64 / lane - 1) + lane / 8 ≤ n → VPlaces lane n x sx (4 * sx)
-v-places =
-    by-lane (λ lane. (n x sx : ℕ) → x + chosenAt lane (each sx 0) (64 / lane - 1) + lane / 8 ≤ n → VPlaces lane n x sx (4 * sx))
-    (λ n x sx h. record { step = omega arith; low = omega arith; high = omega arith; place = omega arith })
-    (λ n x sx h. record { step = omega arith; low = omega arith; high = omega arith; place = omega arith })
-    (λ n x sx h. record { step = omega arith; low = omega arith; high = omega arith; place = omega arith })
+-- the second chunk's begin 4·sx bytes on
+pub v-place : (lane : ℕ) → IsLane lane → (x sx : ℕ) → x + 4 * sx ≡ x + chosenAt lane (each sx 0) (1 * (64 / (2 * lane)))
+v-place lane l x sx =
+    by-lane (λ n. x + 4 * sx ≡ x + chosenAt n (each sx 0) (1 * (64 / (2 * n)))) (omega arith) (omega arith) (omega arith) lane l

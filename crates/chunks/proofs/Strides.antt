@@ -2,22 +2,23 @@
 use mathlib.Core.Path.{_≡_, refl, sym, ap, _∙_}
 use mathlib.Core.Bool.{Bool, false}
 use mathlib.Core.List.{List}
-use Prim.Native.Nat.{ℕ, _+_, _*_, _/_, _%_, _^_, _<_}
-use native.Mathlib.Nat.{add-mul, mul-assoc, mod-eq-of-lt, mul-div-cancel}
+use Prim.Native.Nat.{ℕ, _+_, _-_, _*_, _/_, _%_, _^_, _≤_, _<_}
+use native.Mathlib.Nat.{add-mul, mul-assoc}
 use native.Mathlib.Omega.{arith}
 use lib.Dec.{lit<}
 use lib.ListN.{length, drop}
-use Rattle.elements.specs.Lanes.{each, chosenAt}
-use Rattle.elements.specs.Elements.{elementAt, vector}
+use Rattle.elements.specs.Lanes.{IsLane, each, chosenAt}
+use Rattle.elements.specs.Elements.{elementAt}
 use Rattle.elements.proofs.Elements.{Bytes}
-use Rattle.elements.proofs.Lanes.{chosen-from, chosen-step}
-use Rattle.elements.proofs.Vectors.{within, length-vector, vector-cong, vector-element}
+use Rattle.elements.proofs.Lanes.{chosen-inside, chosen-from, chosen-step}
+use Rattle.elements.proofs.Vectors.{vector-cong}
 use Rattle.lanes.specs.Lane.{step}
-use Rattle.lanes.proofs.Laws.{step-lt}
+use Rattle.lanes.specs.Widths.{IsWidth}
+use Rattle.lanes.proofs.Widths.{by-width}
 use Rattle.recipes.specs.Recipe.{Recipe}
 use Rattle.recipes.specs.Element.{newElement, newBytes}
-use Rattle.recipes.proofs.Built.{newElement-at}
-use Rattle.chunks.specs.Chunk.{evenly, evenBytes, partStep, chunk}
+use Rattle.recipes.proofs.Built.{newElement-at, element-newBytes}
+use Rattle.chunks.specs.Chunk.{evenly, evenBytes, Reach, partStep, chunk, Apart}
 use Rattle.chunks.proofs.Joined.{joined-cong, elements-joined, element-of}
 
 -- ---- a recipe of even steps, read from its first lanes on
@@ -41,73 +42,65 @@ module _ (lane wide : ℕ) (u s : Bool) (sx i sy j : ℕ) (old : List ℕ) (at :
 
 -- ---- its chunks
 
--- an element of `wide` bits has w bytes, and there are `per` of them in eight
-pub record Even (wide w per : ℕ) : Type 0 where
-  pub bytes : wide / 8 ≡ w
-  pub many : 64 / wide ≡ per
-  pub some : 0 < wide
-  pub bits : per * wide ≡ 64
-  pub eight : per * w ≡ 8
-  pub power : 2 ^ wide ≡ 256 ^ w
+-- elements of `wide` bits fill eight bytes
+eight : (wide : ℕ) → IsWidth wide → 64 / wide * (wide / 8) ≡ 8
+eight = by-width (λ n. 64 / n * (n / 8) ≡ 8) refl refl refl refl
 
-pub even-16 : Even 16 2 4
-even-16 = record { bytes = refl; many = refl; some = lit< tt; bits = refl; eight = refl; power = refl }
+-- those of chunk c are among those of a vector that has it
+among : (wide : ℕ) → IsWidth wide → (c j bytes : ℕ) → 8 * c + 8 ≤ bytes → j < 64 / wide → c * (64 / wide) + j < 8 * bytes / wide
+among wide iw c j bytes h =
+    by-width (λ n. j < 64 / n → c * (64 / n) + j < 8 * bytes / n) (λ q. omega arith) (λ q. omega arith) (λ q. omega arith) (λ q. omega arith) wide iw
 
-pub even-32 : Even 32 4 2
-even-32 = record { bytes = refl; many = refl; some = lit< tt; bits = refl; eight = refl; power = refl }
-
-pub even-64 : Even 64 8 1
-even-64 = record { bytes = refl; many = refl; some = lit< tt; bits = refl; eight = refl; power = refl }
+-- where the lanes of the elements of so many bytes are there, so are those of each chunk
+pub chunk-reach : (lane wide : ℕ) → IsLane lane → IsWidth wide → (z : List ℕ) (x sx dx bytes c px : ℕ) → dx ≡ sx * (lane / 8)
+    → px ≡ x + chosenAt lane (each sx 0) (c * (64 / wide)) → 8 * c + 8 ≤ bytes → Reach lane (8 * bytes / wide) z x sx → Apart lane (64 / wide) z px dx
+chunk-reach lane wide l iw z x sx dx bytes c px ed ep h r =
+    let last : 64 / wide - 1 < 64 / wide = by-width (λ n. 64 / n - 1 < 64 / n) (lit< tt) (lit< tt) (lit< tt) (lit< tt) wide iw in
+    let inside = chosen-inside lane l (each sx 0) (8 * bytes / wide) (length z - x) (omega arith) _ (among wide iw c (64 / wide - 1) bytes h last) in
+    rw ed (omega (arith, inside, chosen-step lane sx (c * (64 / wide)) (64 / wide - 1)))
 
 -- sx lanes are dx bytes, and sy are dy
-module _ (lane wide w per : ℕ) (ev : Even wide w per) (u s : Bool) (old : List ℕ) (at : ℕ) (z : List ℕ) (x sx dx y sy dy : ℕ) (edx : dx ≡ sx * (lane / 8))
+module _ (lane wide : ℕ) (iw : IsWidth wide) (u s : Bool) (old : List ℕ) (at : ℕ) (z : List ℕ) (x sx dx y sy dy : ℕ) (edx : dx ≡ sx * (lane / 8))
     (edy : dy ≡ sy * (lane / 8)) (by : Bytes old) where
-  abbrev F : ℕ → ℕ
-  F = newElement (evenly lane wide u s sx sy) (drop at old) (drop x z) (drop y z)
+  abbrev R : Recipe
+  R = evenly lane wide u s sx sy
+
+  abbrev w : ℕ
+  w = wide / 8
+
+  abbrev per : ℕ
+  per = 64 / wide
 
   -- element c·per + j begins j·w bytes after chunk c
-  place : (c j : ℕ) → (c * per + j) * w ≡ 8 * c + j * w
-  place c j = rw (add-mul, mul-assoc, ev .eight) (omega arith)
+  place : (c j : ℕ) → (c * (64 / wide) + j) * (wide / 8) ≡ 8 * c + j * (wide / 8)
+  place c j = rw (add-mul, mul-assoc, eight wide iw) (omega arith)
 
   -- what goes into it
-  part : (c j before px py : ℕ) → j < per → before ≡ elementAt 8 (at + 8 * c) old → px ≡ x + chosenAt lane (each sx 0) (c * per)
-      → py ≡ y + chosenAt lane (each sy 0) (c * per) → partStep lane wide u s before z px dx py dy j ≡ F (c * per + j)
+  part : (c j before px py : ℕ) → j < 64 / wide → before ≡ elementAt 8 (at + 8 * c) old → px ≡ x + chosenAt lane (each sx 0) (c * (64 / wide))
+      → py ≡ y + chosenAt lane (each sy 0) (c * (64 / wide))
+      → partStep lane wide u s before z px dx py dy j ≡ newElement (evenly lane wide u s sx sy) (drop at old) (drop x z) (drop y z) (c * (64 / wide) + j)
   unfolding partStep step
   part c j before px py h eb ex ey =
       let p = place c j in
       let q : at + (c * per + j) * w ≡ at + 8 * c + j * w = omega arith in
       let own : before / 256 ^ (j * w) % 256 ^ w ≡ elementAt w (at + (c * per + j) * w) old =
-      rw (q, eb) (rw (ev .eight) at (element-of w per j (at + 8 * c) old by h)) in
+      rw (q, eb) (rw (eight wide iw) at (element-of w per j (at + 8 * c) old by h)) in
       let fx : px + j * dx ≡ x + chosenAt lane (each sx 0) (c * per + j) = rw (ex, edx) (omega (arith, chosen-step lane sx (c * per) j)) in
       let fy : py + j * dy ≡ y + chosenAt lane (each sy 0) (c * per + j) = rw (ey, edy) (omega (arith, chosen-step lane sy (c * per) j)) in
-      rw (newElement-at (evenly lane wide u s sx sy) old at z x y (c * per + j), ev .bytes, own, fx, fy)
+      rw (newElement-at R old at z x y (c * per + j), own, fx, fy)
 
-  small : (e : ℕ) → F e < 256 ^ w
-  unfolding newElement
-  small e = rw (← ev .power) (step-lt false lane wide u s _ _ _)
-
-  -- chunk c of a vector of n chunks
-  pub chunk-at : (c n before px py : ℕ) → c < n → before ≡ elementAt 8 (at + 8 * c) old → px ≡ x + chosenAt lane (each sx 0) (c * per)
-      → py ≡ y + chosenAt lane (each sy 0) (c * per) → chunk lane wide u s before z px dx py dy ≡ elementAt 8 (8 * c) (vector F w (n * per))
+  -- chunk c of the vector
+  pub chunk-at : (c bytes before px py : ℕ) → 8 * c + 8 ≤ bytes → before ≡ elementAt 8 (at + 8 * c) old → px ≡ x + chosenAt lane (each sx 0) (c * (64 / wide))
+      → py ≡ y + chosenAt lane (each sy 0) (c * (64 / wide))
+      → chunk lane wide u s before z px dx py dy ≡ elementAt 8 (8 * c) (evenBytes lane wide u s old at z x sx y sy bytes)
   unfolding chunk
-  chunk-at c n before px py h eb ex ey =
-      let all : (j : ℕ) → j < per → partStep lane wide u s before z px dx py dy j ≡ elementAt w (8 * c + j * w) (vector F w (n * per)) =
+  chunk-at c bytes before px py h eb ex ey =
+      let New : List ℕ = evenBytes lane wide u s old at z x sx y sy bytes in
+      let all : (j : ℕ) → j < per → partStep lane wide u s before z px dx py dy j ≡ elementAt w (8 * c + j * w) New =
       λ j q.
       part c j before px py q eb ex ey
-      ∙ sym (ap (λ (k : ℕ). elementAt w k (vector F w (n * per))) (sym (place c j))
-      ∙ vector-element F w (n * per) (c * per + j) (omega (arith, within c n per h))
-      ∙ mod-eq-of-lt (small (c * per + j))) in
-      rw (ev .bytes, ev .many)
-      (joined-cong (partStep lane wide u s before z px dx py dy) (λ j. elementAt w (8 * c + j * w) (vector F w (n * per))) w per all
-      ∙ sym (elements-joined w per (8 * c) (vector F w (n * per)))
-      ∙ ap (λ (k : ℕ). elementAt k (8 * c) (vector F w (n * per))) (ev .eight))
-
-  -- n chunks of bytes
-  pub bytes-are : (n bytes : ℕ) → bytes ≡ 8 * n → evenBytes lane wide u s old at z x sx y sy bytes ≡ vector F w (n * per)
-  unfolding newBytes
-  bytes-are n bytes e =
-      let q : 8 * bytes ≡ n * per * wide = rw (mul-assoc, ev .bits) (omega arith) in
-      rw (ev .bytes, q, mul-div-cancel (n * per) (ev .some))
-
-  pub bytes-long : (n bytes : ℕ) → bytes ≡ 8 * n → length (evenBytes lane wide u s old at z x sx y sy bytes) ≡ bytes
-  bytes-long n bytes e = rw (bytes-are n bytes e, length-vector, mul-assoc, ev .eight) (omega arith)
+      ∙ sym (ap (λ (k : ℕ). elementAt w k New) (sym (place c j))
+      ∙ element-newBytes R bytes (drop at old) (drop x z) (drop y z) iw (c * per + j) (among wide iw c j bytes h q)) in
+      joined-cong (partStep lane wide u s before z px dx py dy) (λ j. elementAt w (8 * c + j * w) New) w per all
+      ∙ sym (elements-joined w per (8 * c) New)
+      ∙ ap (λ (k : ℕ). elementAt k (8 * c) New) (eight wide iw)

@@ -73,7 +73,7 @@ fn v_chunk(
     dy: usize,
 ) -> u64
     requires { ⌜ (lane ≡ 16) ⊎ (lane ≡ 32) ⌝ }
-    requires { ⌜ Apart lane (32 / lane) (now z) x (lane / 8) × Apart lane (32 / lane) (now z) y dy ⌝ }
+    requires { ⌜ Apart lane (64 / (2 * lane)) (now z) x (lane / 8) × Apart lane (64 / (2 * lane)) (now z) y dy ⌝ }
     ensures { λ r. ⌜ r ≡ chunk lane (2 * lane) unsigned subtract old (now (z .entry)) x (lane / 8) y dy ⌝ }
 {
     if lane == 16 {
@@ -169,7 +169,7 @@ fn renew_wider(
 ) -> u32
     requires { ⌜ (lane ≡ 16) ⊎ (lane ≡ 32) ⌝ }
     requires { ⌜ at + 16 ≤ length (now z) ⌝ }
-    requires { ⌜ Reach lane (64 / lane) (now z) x 1 × Reach lane (64 / lane) (now z) y by ⌝ }
+    requires { ⌜ Reach lane (8 * 16 / (2 * lane)) (now z) x 1 × Reach lane (8 * 16 / (2 * lane)) (now z) y by ⌝ }
     ensures { λ t. ⌜ Replaced at t (evenBytes lane (2 * lane) unsigned subtract (now (z .entry)) at (now (z .entry)) x 1 y by 16)
         (now (z .entry)) (now (z .exit)) ⌝ }
 {
@@ -197,7 +197,7 @@ pub fn renew_v(
 ) -> u32
     requires { ⌜ IsLane lane ⌝ }
     requires { ⌜ at + 16 ≤ length (now z) ⌝ }
-    requires { ⌜ Reach lane (64 / lane) (now z) x 1 × Reach lane (64 / lane) (now z) y by ⌝ }
+    requires { ⌜ Reach lane (8 * 16 / (2 * lane)) (now z) x 1 × Reach lane (8 * 16 / (2 * lane)) (now z) y by ⌝ }
     ensures { λ t. ⌜ Replaced at t (evenBytes lane (2 * lane) unsigned subtract (now (z .entry)) at (now (z .entry)) x 1 y by 16)
         (now (z .entry)) (now (z .exit)) ⌝ }
 {

@@ -1,5 +1,6 @@
 -- What `chunks` writes, of lanes at even steps, is what the recipes of A, B, D and E say. Assumes nothing.
 use Prim.Native.Nat.{ℕ, _+_, _-_, _*_, _/_, _%_, _≤_, _<_}
+use native.Mathlib.Nat.{mul-div-cancel}
 use native.Mathlib.Omega.{arith}
 use mathlib.Core.Path.{_≡_, refl, sym, ap, _∙_, subst}
 use mathlib.Core.Logic.{_⊎_, inl, inr, ⊎-elim}
@@ -14,12 +15,14 @@ use Rattle.words.specs.declared.Family.{Family}
 use Rattle.words.specs.declared.Family.the-variants.{ByElement, Vector, LongLong, Long}
 use Rattle.words.specs.declared.Fields.{Fields}
 use Rattle.words.proofs.Ranges.{in-family}
+use Rattle.lanes.proofs.Widths.{lane-range, width-range}
 use Rattle.bits.specs.Replace.{Replaced}
 use Rattle.chunks.specs.Chunk.{evenBytes, Reach, OfArray}
+use Rattle.chunks.proofs.Parts.{array-widths}
 use Rattle.chunks.proofs.Strides.{even-bytes}
 use Rattle.recipes.specs.Recipe.{wrapping, recipeOf, newLength, perSource}
 use Rattle.recipes.specs.Element.{newBytes, Inside}
-use Rattle.recipes.proofs.Inside.{in-half, half-in, index-in, inside}
+use Rattle.recipes.proofs.Inside.{half-in, index-in, inside}
 use Rattle.machine.specs.Loop.{made, RegisterRenewed, IntoZa, Sources, Places}
 use Rattle.machine.proofs.Renewal.{source-lt, first-source, register-there, renewal, whole-vector}
 
@@ -49,10 +52,12 @@ module _ {f : Fields} {w : ℕ} {z : List ℕ} (p : Sources f w z) where
   at-half : (x : ℕ) → Half x ≡ x * w + f .part * (64 / f .lane) * (f .lane / 8)
   at-half x = ap (λ (n : ℕ). x * w + n) (half-bytes (p .ranges .lane) (f .part))
 
-  half-there : (x : ℕ) → x < 32 → Reach (f .lane) (64 / f .lane) z (Half x) 1
-  half-there x h =
-      rw (in-half (p .ranges .lane))
-      (reach p x _ 1 _ (Half x) h (at-half x) (half-in (f .lane) (p .ranges .lane) w (p .width .least) (f .part) (p .ranges .part)))
+  -- so many elements there are in a V register
+  abbrev Many : ℕ
+  Many = 8 * 16 / (2 * f .lane)
+
+  half-there : (x : ℕ) → x < 32 → Reach (f .lane) Many z (Half x) 1
+  half-there x h = reach p x _ 1 Many (Half x) h (at-half x) (half-in (f .lane) (p .ranges .lane) w (p .width .least) (f .part) (p .ranges .part))
 
   pub index-small : f .index * (f .lane / 8) ≤ 16
   index-small = omega (arith, index-in (f .lane) (p .ranges .lane) 16 (lit≤ tt) (f .index) 0 (p .ranges .index))
@@ -60,13 +65,13 @@ module _ {f : Fields} {w : ℕ} {z : List ℕ} (p : Sources f w z) where
   pub v-places : At + 16 ≤ length z
   v-places = omega (arith, register-there p (f .destination) (p .ranges .destination), p .width .least)
 
-  pub index-there : Reach (f .lane) (64 / f .lane) z (Half (f .first)) 1 × Reach (f .lane) (64 / f .lane) z Index 0
+  pub index-there : Reach (f .lane) Many z (Half (f .first)) 1 × Reach (f .lane) Many z Index 0
   index-there = (
     half-there (f .first) (source-lt f (p .ranges) .0),
-    reach p (f .second) (f .index) 0 _ Index (source-lt f (p .ranges) .1) refl (index-in (f .lane) (p .ranges .lane) w (p .width .least) (f .index) _ (p .ranges .index)),
+    reach p (f .second) (f .index) 0 Many Index (source-lt f (p .ranges) .1) refl (index-in (f .lane) (p .ranges .lane) w (p .width .least) (f .index) Many (p .ranges .index)),
   )
 
-  pub pairs-there : Reach (f .lane) (64 / f .lane) z (Half (f .first)) 1 × Reach (f .lane) (64 / f .lane) z (Half (f .second)) 1
+  pub pairs-there : Reach (f .lane) Many z (Half (f .first)) 1 × Reach (f .lane) Many z (Half (f .second)) 1
   pairs-there = (half-there (f .first) (source-lt f (p .ranges) .0), half-there (f .second) (source-lt f (p .ranges) .1))
 
   -- the new bytes, where the second source is read from byte y on in steps of `by`
@@ -93,21 +98,12 @@ module _ {f : Fields} {w : ℕ} {z : List ℕ} (p : Sources f w z) where
 
 -- ---- D and E
 
--- k, with the lanes that go with it
-abbrev LanesOf : ℕ → ℕ → Type 0
-LanesOf k lane = ((k ≡ 4) × (lane ≡ 8)) ⊎ (((k ≡ 4) × (lane ≡ 16)) ⊎ ((k ≡ 2) × (lane ≡ 16)))
-
--- what holds of each pair holds of any
-by-lanes : (P : ℕ → ℕ → Type 0) → P 4 8 → P 4 16 → P 2 16 → (k lane : ℕ) → LanesOf k lane → P k lane
-by-lanes P a b c k lane (inl h) = rw (h .0, h .1) a
-by-lanes P a b c k lane (inr (inl h)) = rw (h .0, h .1) b
-by-lanes P a b c k lane (inr (inr h)) = rw (h .0, h .1) c
-
-lanes-of : (f : Fields) → Ranges f → IntoZa f → (k : ℕ) → k ≡ perSource (f .family) → LanesOf k (f .lane)
-lanes-of f g (inl e) k ek =
-    let four : k ≡ 4 = ek ∙ ap perSource e in
-    ⊎-elim (λ (q : f .lane ≡ 8). inl (four, q)) (λ (q : f .lane ≡ 16). inr (inl (four, q))) (in-family f g LongLong e .1)
-lanes-of f g (inr e) k ek = inr (inr (ek ∙ ap perSource e, in-family f g Long e .1))
+-- the lanes, and the elements of k lanes, as a word has them
+array-lanes : (f : Fields) → Ranges f → IntoZa f → (k : ℕ) → k ≡ perSource (f .family) → OfArray (f .lane) (k * f .lane)
+array-lanes f g (inl e) k ek =
+    rw (ek ∙ ap perSource e)
+    (⊎-elim (λ (q : f .lane ≡ 8). rw q (inl (refl, refl))) (λ (q : f .lane ≡ 16). rw q (inr (inl (refl, refl)))) (in-family f g LongLong e .1))
+array-lanes f g (inr e) k ek = rw (ek ∙ ap perSource e, in-family f g Long e .1) (inr (inr (refl, refl)))
 
 -- the recipe, by the k that the code was told
 by-k : (f : Fields) → IntoZa f → (k : ℕ) → k ≡ perSource (f .family) → (i : ℕ) → recipeOf (f .family) f i ≡ wrapping f k (each k i) (each k i)
@@ -115,15 +111,15 @@ by-k f (inl e) k ek i = rw (ek ∙ ap perSource e, e)
 by-k f (inr e) k ek i = rw (ek ∙ ap perSource e, e)
 
 module _ {f : Fields} {w : ℕ} {z za : List ℕ} (p : Places f w z za) (k : ℕ) (ek : k ≡ perSource (f .family)) where
-  kinds : LanesOf k (f .lane)
-  kinds = lanes-of f (p .sources .ranges) (p .into) k ek
-
   pub of-array : OfArray (f .lane) (k * f .lane)
-  of-array = by-lanes (λ k lane. OfArray lane (k * lane)) (inl (refl, refl)) (inr (inl (refl, refl))) (inr (inr (refl, refl))) k (f .lane) kinds
+  of-array = array-lanes f (p .sources .ranges) (p .into) k ek
 
-  -- an element has the bits of k lanes
+  -- an element has the bits of k lanes, and at most 64
   steps : k * f .lane / f .lane ≡ k
-  steps = by-lanes (λ k lane. k * lane / lane ≡ k) refl refl refl k (f .lane) kinds
+  steps = mul-div-cancel k (omega (arith, lane-range (f .lane) (p .sources .ranges .lane)))
+
+  pub wide-small : k * f .lane ≤ 64
+  wide-small = width-range (k * f .lane) (array-widths (f .lane) (k * f .lane) of-array .1 .0) .1
 
   module _ (r i : ℕ) (hr : r < f .group) (hi : i < k) where
     abbrev From : ℕ → ℕ
@@ -132,16 +128,14 @@ module _ {f : Fields} {w : ℕ} {z za : List ℕ} (p : Places f w z za) (k : ℕ
     pub sources-lt : (f .first + r < 32) × (f .second + r < 32)
     sources-lt = (omega (arith, p .sources .ranges .first), omega (arith, p .sources .ranges .second))
 
-    pub numbers-small : (i * (f .lane / 8) ≤ 8) × (k * f .lane ≤ 64)
-    numbers-small =
-        by-lanes (λ k lane. i < k → (i * (lane / 8) ≤ 8) × (k * lane ≤ 64))
-        (λ h. (omega arith, omega arith)) (λ h. (omega arith, omega arith)) (λ h. (omega arith, omega arith)) k (f .lane) kinds hi
-
     found : i < perSource (f .family)
     found = subst (λ (n : ℕ). i < n) ek hi
 
     in-register : Inside (wrapping f k (each k i) (each k i)) w w
     in-register = rw (by-k f (p .into) k ek i, whole-vector p) at (inside f (p .sources .ranges) w (p .sources .width) i found)
+
+    pub from-small : i * (f .lane / 8) ≤ 256
+    from-small = omega (arith, in-register .first, p .sources .width .most)
 
     pub lanes-there : Reach (f .lane) (8 * w / (k * f .lane)) z (From (f .first)) (k * f .lane / f .lane)
         × Reach (f .lane) (8 * w / (k * f .lane)) z (From (f .second)) (k * f .lane / f .lane)

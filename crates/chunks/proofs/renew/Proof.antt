@@ -11,7 +11,9 @@ use Rattle.bits.specs.Bits.{toggled}
 use Rattle.bits.proofs.Bits.{toggled-same}
 use Rattle.bits.proofs.Put.{Upto, few-ones}
 use Rattle.chunks.specs.Chunk.{evenBytes, Apart}
-use Rattle.chunks.proofs.Renewed.{turned, whole, even-array, array-step, array-reach, array-place}
+use Rattle.chunks.proofs.Parts.{array-widths}
+use Rattle.chunks.proofs.Strides.{chunk-reach}
+use Rattle.chunks.proofs.Renewed.{turned, whole, array-step, array-place}
 use Rattle.chunks.proofs.renew.Statement.{statement}
 use Rattle.chunks.proofs.renew.Tie as tie
 
@@ -46,9 +48,14 @@ lanes : (c : tie.In-loop Inv-loop μ-loop)
 lanes c =
     let s = S c in
     let a = s .args in
-    let o = c .before .loop .o in
-    let there = array-reach (a .lane) (a .wide) (s .pre .0) in
-    (there (a .x) o (a .bytes) _ (s .pre .1 .0 .1 .0) (eight c) (s .pre .1 .1 .0), there (a .y) o (a .bytes) _ (s .pre .1 .0 .1 .0) (eight c) (s .pre .1 .1 .1))
+    let l = c .before .loop in
+    let w = array-widths (a .lane) (a .wide) (s .pre .0) in
+    let there = chunk-reach (a .lane) (a .wide) (w .0) (w .1 .0) (a .z .now) in
+    let step = array-step (a .lane) (a .wide) (s .pre .0) in
+    let place = array-place (a .lane) (a .wide) (s .pre .0) in (
+      there (a .x) _ _ (a .bytes) (l .o / 8) _ step (place (a .x) (l .o) (l .inv .1)) (omega (arith, eight c)) (s .pre .1 .1 .0),
+      there (a .y) _ _ (a .bytes) (l .o / 8) _ step (place (a .y) (l .o) (l .inv .1)) (omega (arith, eight c)) (s .pre .1 .1 .1),
+    )
 
 add-array-chunk : tie.Need-add-array-chunk Inv-loop μ-loop
 add-array-chunk c = omega (arith, lanes (c .before .before) .0)
@@ -92,7 +99,7 @@ loop-again c =
     let a = s .args in
     let step = array-step (a .lane) (a .wide) (s .pre .0) in
     let T =
-    turned (a .lane) (a .wide) (a .wide / 8) (64 / a .wide) (even-array (a .lane) (a .wide) (s .pre .0)) (a .unsigned) (a .subtract) (a .za .now) (a .at) (a .z .now)
+    turned (a .lane) (a .wide) (array-widths (a .lane) (a .wide) (s .pre .0) .1 .0) (a .unsigned) (a .subtract) (a .za .now) (a .at) (a .z .now)
     (a .x) (a .wide / a .lane) (a .wide / 8) (a .y) (a .wide / a .lane) (a .wide / 8) (a .bytes) step step (λ j. k .slice-known .given j .fits) (s .pre .1 .0 .0) (s .pre .1 .0 .1 .0)
     (l .o) (l .t) (r .read8 .result) (d .array-chunk .result) (a .x + l .o) (a .y + l .o) (l .za) _
     (l .inv .1) (g .loop-test .taken) (l .inv .2) (l .inv .3)
@@ -110,7 +117,7 @@ returns c =
     let s = k .before in
     let a = s .args in
     let step = array-step (a .lane) (a .wide) (s .pre .0) in
-    whole (a .lane) (a .wide) (a .wide / 8) (64 / a .wide) (even-array (a .lane) (a .wide) (s .pre .0)) (a .unsigned) (a .subtract) (a .za .now) (a .at) (a .z .now)
+    whole (a .lane) (a .wide) (array-widths (a .lane) (a .wide) (s .pre .0) .1 .0) (a .unsigned) (a .subtract) (a .za .now) (a .at) (a .z .now)
     (a .x) (a .wide / a .lane) (a .wide / 8) (a .y) (a .wide / a .lane) (a .wide / 8) (a .bytes) step step (λ j. k .slice-known .given j .fits) (s .pre .1 .0 .0) (s .pre .1 .0 .1 .0)
     (l .o) (l .t) (l .za) (l .inv .1) (l .inv .0) (c .loop-test .left) (l .inv .2) (l .inv .3) (l .inv .4)
 

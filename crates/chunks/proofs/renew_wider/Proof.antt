@@ -1,25 +1,43 @@
 -- `chunks::renew_wider` meets its contract. Assumes nothing.
-use mathlib.Core.Path.{refl}
+use mathlib.Core.Path.{_≡_, refl}
 use mathlib.Core.Logic.{inr}
-use Prim.Native.Nat.{_*_, _/_}
-use native.Mathlib.Nat.{one-mul}
+use Prim.Native.Nat.{ℕ, _+_, _*_, _/_, _≤_}
+use native.Mathlib.Nat.{mul-le-mul-left}
 use native.Mathlib.Omega.{arith}
-use lib.ListN.{length}
+use lib.Dec.{lit≤}
+use Rattle.elements.specs.Lanes.{IsLane, each, chosenAt}
+use Rattle.lanes.proofs.Widths.{lane-range, doubled}
 use Rattle.bits.proofs.Put.{few-ones}
-use Rattle.chunks.proofs.Renewed.{both-turns, even-v, VPlaces, v-places}
+use Rattle.chunks.specs.Chunk.{Apart}
+use Rattle.chunks.proofs.Strides.{chunk-reach}
+use Rattle.chunks.proofs.Renewed.{both-turns, v-place}
 use borrow.Author.Needs.{needs}
 use Rattle.chunks.proofs.renew_wider.Statement.{statement}
 use Rattle.chunks.proofs.renew_wider.Tie as tie
 
--- where both chunks have their lanes, in the first source and in the second
-first : (s : tie.Start) → VPlaces (s .args .lane) (length (s .args .z .now)) (s .args .x) 1 4
-first s = v-places (s .args .lane) (inr (s .pre .0)) _ (s .args .x) 1 (s .pre .1 .1 .0)
+-- both chunks have their lanes, in the first source and in the second
+abbrev Lanes : tie.Start → ℕ → ℕ → Type 0
+Lanes s x y =
+    Apart (s .args .lane) (64 / (2 * s .args .lane)) (s .args .z .now) x (s .args .lane / 8)
+    × Apart (s .args .lane) (64 / (2 * s .args .lane)) (s .args .z .now) y (s .args .by * (s .args .lane / 8))
 
-second : (s : tie.Start) → VPlaces (s .args .lane) (length (s .args .z .now)) (s .args .y) (s .args .by) (4 * s .args .by)
-second s = v-places (s .args .lane) (inr (s .pre .0)) _ (s .args .y) (s .args .by) (s .pre .1 .1 .1)
+there : (s : tie.Start) (c x y : ℕ) → 8 * c + 8 ≤ 16 → x ≡ s .args .x + chosenAt (s .args .lane) (each 1 0) (c * (64 / (2 * s .args .lane)))
+    → y ≡ s .args .y + chosenAt (s .args .lane) (each (s .args .by) 0) (c * (64 / (2 * s .args .lane))) → Lanes s x y
+there s c x y h ex ey =
+    let l = s .args .lane in
+    let chunk = chunk-reach l (2 * l) (inr (s .pre .0)) (doubled l (inr (s .pre .0)) .1 .0) (s .args .z .now) in
+    (chunk (s .args .x) 1 (l / 8) 16 c x (omega arith) ex h (s .pre .1 .1 .0), chunk (s .args .y) (s .args .by) _ 16 c y refl ey h (s .pre .1 .1 .1))
+
+low : (s : tie.Start) → Lanes s (s .args .x) (s .args .y)
+low s = there s 0 (s .args .x) (s .args .y) (lit≤ tt) (omega arith) (omega arith)
+
+high : (s : tie.Start) → Lanes s (s .args .x + 4) (s .args .y + 4 * s .args .by)
+high s = there s 1 _ _ (lit≤ tt) (v-place (s .args .lane) (inr (s .pre .0)) (s .args .x) 1) (v-place (s .args .lane) (inr (s .pre .0)) (s .args .y) (s .args .by))
 
 mul-dy : tie.Need-mul-dy
-mul-dy c = omega (arith, second (c .before) .step)
+mul-dy c =
+    let s = c .before in
+    omega (arith, mul-le-mul-left {m = s .args .lane / 8} {n = 4} (s .args .by) (omega (arith, lane-range (s .args .lane) (inr (s .pre .0)))), high s .1)
 
 read8-requires : tie.Need-read8-requires
 read8-requires c κs = search needs
@@ -33,21 +51,21 @@ read8-requires-2 c κs = search needs
 v-chunk-requires : tie.Need-v-chunk-requires
 v-chunk-requires c κs =
     let s = c .before .before .before .before .before .before in
-    (s .pre .0, (rw one-mul at (first s .low), second s .low))
+    (s .pre .0, low s)
 
 add-v-chunk : tie.Need-add-v-chunk
-add-v-chunk c = omega (arith, first (c .before .before .before .before .before .before .before .before) .high)
+add-v-chunk c = omega (arith, high (c .before .before .before .before .before .before .before .before) .0)
 
 mul-v-chunk : tie.Need-mul-v-chunk
-mul-v-chunk c = omega (arith, second (c .before .before .before .before .before .before .before .before) .high)
+mul-v-chunk c = omega (arith, high (c .before .before .before .before .before .before .before .before) .1)
 
 add-v-chunk-2 : tie.Need-add-v-chunk-2
-add-v-chunk-2 c = omega (arith, second (c .before .before .before .before .before .before .before .before) .high)
+add-v-chunk-2 c = omega (arith, high (c .before .before .before .before .before .before .before .before) .1)
 
 v-chunk-requires-2 : tie.Need-v-chunk-requires-2
 v-chunk-requires-2 c κs =
     let s = c .before .before .before .before .before .before .before .before in
-    (s .pre .0, (rw one-mul at (first s .high), second s .high))
+    (s .pre .0, high s)
 
 put8-requires : tie.Need-put8-requires
 put8-requires c κs = search needs
@@ -77,9 +95,10 @@ returns c =
     let k = q .before .before in
     let s = k .before in
     let a = s .args in
-    both-turns (a .lane) (2 * a .lane) (2 * a .lane / 8) (64 / (2 * a .lane)) (even-v (a .lane) (inr (s .pre .0))) (a .unsigned) (a .subtract) (a .z .now) (a .at)
+    let l : IsLane (a .lane) = inr (s .pre .0) in
+    both-turns (a .lane) (2 * a .lane) (doubled (a .lane) l .1 .0) (a .unsigned) (a .subtract) (a .z .now) (a .at)
     (a .x) 1 (a .lane / 8) (a .y) (a .by) (a .by * (a .lane / 8)) (omega arith) refl (λ j. k .slice-known .given j .fits) (s .pre .1 .0)
-    (q .read8 .result) (g .v-chunk .result) (r .read82 .result) (h .v-chunk2 .result) _ _ _ _ (first s .place) (second s .place)
+    (q .read8 .result) (g .v-chunk .result) (r .read82 .result) (h .v-chunk2 .result) _ _ _ _ (v-place (a .lane) l (a .x) 1) (v-place (a .lane) l (a .y) (a .by))
     (q .read8 .ensures .0) (r .read82 .ensures .0) (g .v-chunk .ensures) (h .v-chunk2 .ensures)
     (q .read8 .ensures .1) (omega arith) (r .read82 .ensures .1) (omega arith)
     (p .put8 .ensures) (c .before .before .put82 .ensures)

@@ -3,13 +3,15 @@ use Prim.Native.Nat.{_+_, _*_, _/_, _≤_}
 use native.Mathlib.Omega.{arith}
 use borrow.Author.Needs.{needs}
 use Rattle.machine.proofs.Renewal.{register-small, vector-small}
-use Rattle.machine.proofs.Strides.{of-array, sources-lt, numbers-small, lanes-there, vector-there, array-renewal}
+use Rattle.machine.proofs.Strides.{of-array, wide-small, sources-lt, from-small, lanes-there, vector-there, array-renewal}
 use Rattle.machine.proofs.step_vector.Statement.{statement}
 use Rattle.machine.proofs.step_vector.Tie as tie
 
 -- the numbers that the code makes are small
-small : (s : tie.Start) → (s .args .i * (s .args .fields .lane / 8) ≤ 8) × (s .args .k * s .args .fields .lane ≤ 64)
-small s = let h = s .pre .1 .1 in numbers-small (s .pre .0) (s .args .k) (s .pre .1 .0) (s .args .r) (s .args .i) (h .1) (h .2)
+small : (s : tie.Start) → (s .args .i * (s .args .fields .lane / 8) ≤ 256) × (s .args .k * s .args .fields .lane ≤ 64)
+small s =
+    let h = s .pre .1 .1 in
+    (from-small (s .pre .0) (s .args .k) (s .pre .1 .0) (s .args .r) (s .args .i) (h .1) (h .2), wide-small (s .pre .0) (s .args .k) (s .pre .1 .0))
 
 registers : (s : tie.Start)
     → ((s .args .fields .first + s .args .r) * s .args .w + s .args .w ≤ 8192) × ((s .args .fields .second + s .args .r) * s .args .w + s .args .w ≤ 8192)
