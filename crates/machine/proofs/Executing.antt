@@ -70,6 +70,10 @@ module _ (s : Settings) (z za : List ℕ) where
     unfolding executePaper
     is-permitted p = rw (r .valid, lengths-right s _ _ (r .z-long) (r .za-long), e) (cond-no _ _ _ _ (ap not p) refl)
 
+    -- of the fields g that the code has read
+    pub is-done : (g : Fields) (o : Outcome) → g ≡ f → permits (s .features .0) (s .modes .0) (f .family) ≡ true → o ≡ stepped s g z za → o ≡ executePaper s w z za
+    is-done g o eg p eo = eo ∙ ap (λ (h : Fields). stepped s h z za) eg ∙ is-permitted p
+
   -- what holds of every refusal and of the step of an accepted word holds of every outcome
   pub each-outcome : (w : ℕ) (P : Outcome → Type 0) → ((n : ℕ) → n ≢ 0 → P (refusedWith n z za))
       → ((f : Fields) → Ready s z za → decodePaper s w ≡ (0, f) → permits (s .features .0) (s .modes .0) (f .family) ≡ true → P (stepped s f z za))
