@@ -2,14 +2,12 @@
 use Prim.Native.Nat.{ℕ, _*_}
 use mathlib.Core.Path.{_≡_, refl, sym, ap, _∙_, subst}
 use mathlib.Core.Logic.{_⊎_, inl, inr, ⊎-elim, _≢_}
-use mathlib.Core.Bool.{Bool, true, false}
+use mathlib.Core.Bool.{true, false}
 use mathlib.Core.List.{List}
 use lib.ListN.{length}
 use Rattle.laws.proofs.Tests.{failed, cond-holds}
 use Rattle.settings.specs.Valid.{validSettings, vectorBytes, arrayBytes}
-use Rattle.settings.specs.declared.Refusal.the-variants.{BadSettings, BadLength, UnknownWord, WrongMode}
 use Rattle.settings.specs.declared.Settings.{Settings}
-use Rattle.settings.proofs.Refusals.{not-0}
 use Rattle.words.specs.Says.{Described, As, Nothing, describe}
 use Rattle.words.specs.Decode.{enables, noFields, enabledOnly, decodeEnabled, decodePaper}
 use Rattle.words.specs.Ranges.{Ranges}
@@ -18,7 +16,7 @@ use Rattle.machine.specs.Modes.{permits}
 use Rattle.machine.specs.Execute.{Outcome, refusedWith, stepped, rightLengths, executePaper}
 use Rattle.machine.specs.Loop.{IntoZa, Ready}
 use Rattle.machine.proofs.Stepping.{IntoZ, which-file, steppedZ, steppedZa, stepped-z, stepped-za}
-use Rattle.machine.proofs.Executing.{word-ranges, not-valid, not-long, lengths-right, is-ready, not-decoded, not-permitted, is-permitted}
+use Rattle.machine.proofs.Executing.{word-ranges, not-valid, not-long, lengths-right, is-ready, not-decoded, not-permitted, is-permitted, each-outcome}
 use Rattle.demands.specs.Execution.{Accepted, RefusedInOrder}
 
 -- decoding gives 0 or 3
@@ -76,28 +74,11 @@ module _ (s : Settings) (w : ℕ) (z za : List ℕ) where
   abbrev pub IsRefused : Type 0
   IsRefused = (n : ℕ) × ((n ≢ 0) × (executePaper s w z za ≡ refusedWith n z za))
 
-  at-word : (f : Fields) → validSettings s ≡ true → rightLengths s (length z) (length za) ≡ true → decodePaper s w ≡ (0, f)
-      → (p : Bool) → permits (s .features .0) (s .modes .0) (f .family) ≡ p → IsRefused ⊎ ((f : Fields) × Accepted s w f z za)
-  at-word f v l d true p =
-      let e = is-ready s z za v l in
-      inr (f, record { valid = v; z-exact = e .z-long; za-exact = e .za-long; decodes = d; permitted = p })
-  at-word f v l d false p = inl (4, (not-0 WrongMode, refused-4 v l f d p))
-
-  at-lengths : validSettings s ≡ true → (l : Bool) → rightLengths s (length z) (length za) ≡ l → IsRefused ⊎ ((f : Fields) × Accepted s w f z za)
-  at-lengths v false l = inl (2, (not-0 BadLength, refused-2 v l))
-  at-lengths v true l =
-      let d : ℕ × Fields = decodePaper s w in
-      ⊎-elim
-      (λ (e : d .0 ≡ 0). at-word (d .1) v l (ap (λ (n : ℕ). (n, d .1)) e) (permits (s .features .0) (s .modes .0) (d .1 .family)) refl)
-      (λ (e : d .0 ≡ 3). inl (3, (not-0 UnknownWord, refused-3 v l (λ o. not-0 UnknownWord (sym e ∙ o)))))
-      (decoded-number s w v)
-
-  at-settings : (v : Bool) → validSettings s ≡ v → IsRefused ⊎ ((f : Fields) × Accepted s w f z za)
-  at-settings false v = inl (1, (not-0 BadSettings, refused-1 v))
-  at-settings true v = at-lengths v (rightLengths s (length z) (length za)) refl
-
   pub refused-or-accepted : IsRefused ⊎ ((f : Fields) × Accepted s w f z za)
-  refused-or-accepted = at-settings (validSettings s) refl
+  refused-or-accepted =
+      each-outcome s z za w (λ o. ((n : ℕ) × ((n ≢ 0) × (o ≡ refusedWith n z za))) ⊎ ((f : Fields) × Accepted s w f z za))
+      (λ n h. inl (n, (h, refl)))
+      (λ f r d p. inr (f, record { valid = r .valid; z-exact = r .z-long; za-exact = r .za-long; decodes = d; permitted = p }))
 
   -- the fields of an accepted word are in range
   pub accepted-ranges : (f : Fields) → Accepted s w f z za → Ranges f

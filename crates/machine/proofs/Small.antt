@@ -1,36 +1,27 @@
 -- The counts of every outcome are small, so that those of many words can be summed. Assumes nothing.
 use Prim.Native.Nat.{ℕ, _+_, _*_, _≤_}
 use native.Mathlib.Omega.{arith}
-use mathlib.Core.Path.{_≡_, refl, ap}
+use mathlib.Core.Path.{_≡_, refl}
 use mathlib.Core.Logic.{_⊎_, inl, inr}
-use mathlib.Core.Bool.{not}
 use mathlib.Core.List.{List}
 use lib.Bits.{differ}
-use lib.Dec.{lit≤, eqb}
-use lib.ListN.{length}
-use borrow.Author.Tests.{eqb-true, not-false}
-use Rattle.laws.proofs.Tests.{cond-holds}
-use Rattle.settings.specs.Valid.{validSettings, vectorBytes}
+use lib.Dec.{lit≤}
+use Rattle.settings.specs.Valid.{vectorBytes}
 use Rattle.settings.specs.declared.Settings.{Settings}
 use Rattle.settings.proofs.Lengths.{vector-at-most, vector-bits, array-at-most}
-use Rattle.words.specs.Decode.{decodePaper}
 use Rattle.words.specs.Ranges.{Ranges, OfFamily}
 use Rattle.words.specs.declared.Family.{Family}
 use Rattle.words.specs.declared.Family.the-variants.{ByElement, Vector, Saturating, LongLong, Long}
 use Rattle.words.specs.declared.Fields.{Fields}
 use Rattle.bits.specs.Bits.{toggled}
 use Rattle.bits.proofs.Bits.{differ-once, bytes-le}
-use Rattle.machine.specs.Modes.{permits}
-use Rattle.machine.specs.Execute.{Outcome, refusedWith, written, stepped, rightLengths, executePaper}
+use Rattle.machine.specs.Execute.{Outcome, written, stepped, executePaper}
 use Rattle.machine.specs.Loop.{Ready}
-use Rattle.machine.proofs.Executing.{word-ranges, is-ready}
+use Rattle.machine.proofs.Executing.{word-ranges, each-outcome}
 
 -- at most each bit of Z and ZA toggled; VL·group·4 written, with the greatest VL and the greatest group
 abbrev pub Small : Outcome → Type 0
 Small o = (o .toggled ≤ 49152) × (o .written ≤ 8192)
-
-refused-small : (n : ℕ) (z za : List ℕ) → Small (refusedWith n z za)
-refused-small n z za = (omega arith, omega arith)
 
 module _ (s : Settings) (f : Fields) (z za : List ℕ) (p : Ready s z za) where
   register : vectorBytes s ≤ 64
@@ -69,12 +60,4 @@ module _ (s : Settings) (f : Fields) (z za : List ℕ) (p : Ready s z za) where
   step-small g = (toggled-small _ _, written-small (f .family) refl (g .of-family))
 
 pub counts-small : (s : Settings) (w : ℕ) (z za : List ℕ) → Small (executePaper s w z za)
-unfolding executePaper
-counts-small s w z za =
-    let d : ℕ × Fields = decodePaper s w in
-    cond-holds Small (not (validSettings s)) _ _ (λ _. refused-small 1 z za)
-    (λ v. cond-holds Small (not (rightLengths s (length z) (length za))) _ _ (λ _. refused-small 2 z za)
-    (λ l. cond-holds Small (not (eqb (d .0) 0)) _ _ (λ _. refused-small 3 z za)
-    (λ e. cond-holds Small (not (permits (s .features .0) (s .modes .0) (d .1 .family))) _ _ (λ _. refused-small 4 z za)
-    (λ _. step-small s (d .1) z za (is-ready s z za (not-false _ v) (not-false _ l))
-    (word-ranges s w (d .1) (ap (λ (n : ℕ). (n, d .1)) (eqb-true (d .0) 0 (not-false _ e))))))))
+counts-small s w z za = each-outcome s z za w Small (λ n h. (omega arith, omega arith)) (λ f p d m. step-small s f z za p (word-ranges s w f d))

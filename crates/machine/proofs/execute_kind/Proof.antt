@@ -5,12 +5,10 @@ use borrow.Author.Tests.{not-true, not-false}
 use Rattle.words.specs.Kinds.{fieldsAs}
 use Rattle.words.specs.Ranges.{Ranges}
 use Rattle.words.specs.declared.Family.{Family}
-use Rattle.words.specs.declared.Fields.{Fields}
 use Rattle.words.proofs.ByKind.{family-as}
 use Rattle.words.proofs.Answers.{decodes-exactly}
 use Rattle.machine.specs.Modes.{permits}
-use Rattle.machine.specs.Execute.{stepped}
-use Rattle.machine.proofs.Executing.{word-ranges, not-permitted, is-permitted}
+use Rattle.machine.proofs.Executing.{word-ranges, not-permitted, is-done}
 use Rattle.machine.proofs.execute_kind.Statement.{statement}
 use Rattle.machine.proofs.execute_kind.Tie as tie
 
@@ -59,9 +57,7 @@ returns-2 c =
     let i = f .before in
     let s = entry (i .before) in
     let a = s .args in
-    t .step .ensures
-    ∙ ap (λ (g : Fields). stepped (a .settings) g (a .z .now) (a .za .now)) (f .fields-of .ensures)
-    ∙ is-permitted (a .settings) (a .z .now) (a .za .now) (a .word) _ (s .pre .0) (s .pre .1) (asked (i .before) ∙ not-false _ (i .if1 .left))
+    is-done (a .settings) (a .z .now) (a .za .now) (a .word) _ (s .pre .0) (s .pre .1) _ _ (f .fields-of .ensures) (asked (i .before) ∙ not-false _ (i .if1 .left)) (t .step .ensures)
 
 pub execute-kind-spec : {M : Type 1} → statement M
 execute-kind-spec =
