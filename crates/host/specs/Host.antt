@@ -71,13 +71,13 @@ fieldAt =
     }
 
 -- twelve numbers, each put at its place
-abbrev pub placed : List (ℕ × ℕ) → List ℕ
-placed [] = replicate 12 0
-placed (p ∷ ps) = set (placed ps) (p .0) (p .1)
+abbrev pub atPlaces : List (ℕ × ℕ) → List ℕ
+atPlaces [] = replicate 12 0
+atPlaces (p ∷ ps) = set (atPlaces ps) (p .0) (p .1)
 
 abbrev pub fieldNumbers : Fields → List ℕ
 fieldNumbers f =
-    placed
+    atPlaces
     ((fieldAt .family, familyNumber (f .family))
     ∷ (fieldAt .unsigned, bitOf (f .unsigned))
     ∷ (fieldAt .subtract, bitOf (f .subtract))

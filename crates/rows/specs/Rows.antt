@@ -24,29 +24,29 @@ use Rattle.machine.specs.Step.{newRegister, zAfter, stride, selected, firstVect
 use Rattle.machine.specs.Execute.{Outcome, stepped, executePaper}
 
 -- what a row gives
-pub data Given : Type 0 where
+pub data BenchGiven : Type 0 where
   -- a word, and the features
-  word : ℕ → ℕ → Given
+  word : ℕ → ℕ → BenchGiven
   -- the same, run with all Z bytes the same
-  onto : ℕ → ℕ → ℕ → Given
+  onto : ℕ → ℕ → ℕ → BenchGiven
   -- one lane of a word: the features, each source element, and the element that they go onto
-  lane : ℕ → ℕ → ℕ → ℕ → ℕ → Given
+  lane : ℕ → ℕ → ℕ → ℕ → ℕ → BenchGiven
   -- a word of ZA, the features and W8, run with modes 3
-  array : ℕ → ℕ → ℕ → Given
+  array : ℕ → ℕ → ℕ → BenchGiven
   -- so many bits toggled, of so many written
-  share : ℕ → ℕ → Given
+  share : ℕ → ℕ → BenchGiven
 
 -- what a row answers
-pub data Answer : Type 0 where
-  refused : ℕ → Answer
-  fields : Fields → Answer
+pub data BenchAnswer : Type 0 where
+  refused : ℕ → BenchAnswer
+  fields : Fields → BenchAnswer
   -- the destination's lanes, toggled, written and percent
-  lanes : List ℕ → ℕ → ℕ → ℕ → Answer
+  lanes : List ℕ → ℕ → ℕ → ℕ → BenchAnswer
   -- one lane, as its bits and as a signed number
-  onelane : ℕ → ℤ → Answer
+  onelane : ℕ → ℤ → BenchAnswer
   -- the vectors of ZA that the word changed
-  vectors : List ℕ → Answer
-  percent : ℕ → Answer
+  vectors : List ℕ → BenchAnswer
+  percent : ℕ → BenchAnswer
 
 -- VL is 128, and modes and select registers are 0, unless said
 abbrev pub benchWith : ℕ → ℕ → ℕ → Settings
@@ -56,7 +56,7 @@ benchWith features modes w8 =
 abbrev pub bench : ℕ → Settings
 bench features = benchWith features 0 0
 
-abbrev pub decodeAnswer : ℕ → Fields → Answer
+abbrev pub decodeAnswer : ℕ → Fields → BenchAnswer
 decodeAnswer zero f = fields f
 decodeAnswer (suc n) f = refused (suc n)
 
@@ -65,12 +65,12 @@ abbrev pub rowFields : ℕ → ℕ → Fields
 rowFields w features = decodePaper (bench features) w .1
 
 -- register 0 has eight lanes of 16 bits
-abbrev pub lanesAnswer : Outcome → Answer
+abbrev pub lanesAnswer : Outcome → BenchAnswer
 lanesAnswer o =
     lanes (map (element 2 (o .z)) (0 ∷ 1 ∷ 2 ∷ 3 ∷ 4 ∷ 5 ∷ 6 ∷ 7 ∷ [])) (o .toggled) (o .written) (percentOf (o .toggled) (o .written))
 
 -- element 0 of the new vector, where every element of a source register is the given one
-abbrev pub laneAnswer : Recipe → ℕ → ℕ → ℕ → Answer
+abbrev pub laneAnswer : Recipe → ℕ → ℕ → ℕ → BenchAnswer
 laneAnswer r a x y =
     let n : ℕ =
     newElement r (lowBytes (r .wide / 8) a) (vector (λ e. x) (r .lane / 8) 8) (vector (λ e. y) (r .lane / 8) 8) 0 in
@@ -82,19 +82,19 @@ changed zero za = []
 changed (suc v) za = changed v za ++ cond (eqb (toggled (replicate 16 0) (vectorAt 16 v za)) 0) [] (v ∷ [])
 
 -- what the definitions answer
-unfoldable pub rowAnswer : Given → Answer
+unfoldable pub rowAnswer : BenchGiven → BenchAnswer
 rowAnswer (word w features) = decodeAnswer (decodePaper (bench features) w .0) (decodePaper (bench features) w .1)
 rowAnswer (onto w features x) = lanesAnswer (executePaper (bench features) w (replicate 512 x) (replicate 256 0))
 rowAnswer (lane w features x y a) = laneAnswer (recipeOf (rowFields w features .family) (rowFields w features) 0) a x y
 rowAnswer (array w features w8) = vectors (changed 16 (executePaper (benchWith features 3 w8) w (replicate 512 1) (replicate 256 0) .za))
 rowAnswer (share toggled written) = percent (percentOf toggled written)
 
-pub record Line : Type 0 where
+pub record BenchLine : Type 0 where
   pub name : String
-  pub given : Given
-  pub answer : Answer
+  pub given : BenchGiven
+  pub answer : BenchAnswer
 
-abbrev pub benchRows : List Line
+abbrev pub benchRows : List BenchLine
 benchRows =
     record { name = "P1"; given = onto 0x0E228020 1 0x01; answer = lanes (replicate 8 0x0102) 16 128 12 }
     ∷ record { name = "P2"; given = onto 0x0E22A020 1 0x01; answer = lanes (replicate 8 0x0100) 8 128 6 }
@@ -127,7 +127,7 @@ benchRows =
     ∷ []
 
 -- the one statement: the definitions answer each row as the table does
-pub rows-hold : map (λ (l : Line). rowAnswer (l .given)) benchRows ≡ map (λ (l : Line). l .answer) benchRows
+pub rows-hold : map (λ (l : BenchLine). rowAnswer (l .given)) benchRows ≡ map (λ (l : BenchLine). l .answer) benchRows
 unfolding rowAnswer decodePaper decodeEnabled describe enables validSettings vectorBytes arrayBytes
     elementAt lowBytes vector vectorAt laid renewed SInt Int low product accumulate laneStep clamp SignedSat satStep step overBits overBytes
     newElement newBytes newRegister zAfter stride selected firstVector someBelow writesVector newVector zaAfter stepped executePaper
