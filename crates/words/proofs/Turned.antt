@@ -10,16 +10,14 @@ use borrow.Author.Tests.{eqb-true, eqb-false}
 use Rattle.laws.specs.Lists.{Each}
 use Rattle.laws.proofs.Bits.{one-bit}
 use Rattle.laws.proofs.Tests.{cond-holds}
-use Rattle.layouts.specs.Layout.{Layout, Letters, part, value, maskOf, flip}
+use Rattle.layouts.specs.Layout.{Letters, part, value, maskOf, flip}
 use Rattle.layouts.proofs.Flipped.{others-kept, one-flipped}
 use Rattle.words.specs.Numbers.{bitOf}
-use Rattle.words.specs.Rows.{rowC16, rowC32, rowD2, rowD4, rowE2, rowE4}
-use Rattle.words.specs.Says.{Row, entry, table, fieldsA16, fieldsA32, fieldsA, fieldsB, fieldsC, fieldsD, fieldsE, isOne}
+use Rattle.words.specs.Says.{Row, table, fieldsA16, fieldsA32, isOne}
 use Rattle.words.specs.Partner.{turned}
 use Rattle.words.specs.Sign.{signAt, signOf}
 use Rattle.words.specs.declared.Family.{Family}
 use Rattle.words.specs.declared.Family.the-variants.{ByElement, Vector, Saturating, LongLong, Long}
-use Rattle.words.specs.declared.Fields.{Fields}
 use Rattle.words.proofs.Numbers.{bit-back}
 use Rattle.words.proofs.Table.{_then_}
 
@@ -69,47 +67,29 @@ module _ (v : Letters) where
   s-back : isOne (bitOf (not (isOne (v "S")))) ≡ not (isOne (v "S"))
   s-back = bit-back (not (isOne (v "S")))
 
-  turned-choice : (b : Bool) (f g : Fields) → cond b (turned f) (turned g) ≡ turned (cond b f g)
-  turned-choice true f g = refl
-  turned-choice false f g = refl
-
-  turned-a : fieldsA (otherS v) ≡ turned (fieldsA v)
-  unfolding turned
-  turned-a = rw s-back (turned-choice (eqb (v "s") 0b01) (fieldsA16 v) (fieldsA32 v))
-
+  -- A, by its size
   family-a : (b : Bool) → cond b (fieldsA16 v) (fieldsA32 v) .family ≡ ByElement
   family-a true = refl
   family-a false = refl
 
-  turned-b : fieldsB (otherS v) ≡ turned (fieldsB v)
-  unfolding turned
-  turned-b = rw s-back
+  turned-a : (b : Bool) → cond b (turned (fieldsA16 v)) (turned (fieldsA32 v)) ≡ turned (cond b (fieldsA16 v) (fieldsA32 v))
+  turned-a true = refl
+  turned-a false = refl
 
-  turned-c : (lane : ℕ) → fieldsC lane (otherS v) ≡ turned (fieldsC lane v)
-  unfolding turned
-  turned-c lane = rw s-back
-
-  turned-d : (group : ℕ) → fieldsD group (otherS v) ≡ turned (fieldsD group v)
-  unfolding turned
-  turned-d group = rw s-back
-
-  turned-e : (group : ℕ) → fieldsE group (otherS v) ≡ turned (fieldsE group v)
-  unfolding turned
-  turned-e group = rw s-back
-
--- a row of one family and without reserved sizes
-turns : (family : Family) (l : Layout) (fields : Letters → Fields) → ((w : ℕ) → value l w "S" ≡ part w (signAt family) 1) → maskOf l (code "S") ≡ signOf family
-    → ((v : Letters) → fields v .family ≡ family) → ((v : Letters) → fields (otherS v) ≡ turned (fields v)) → Turns (entry l fields)
-turns family l fields s m f k = record { family = family; s-at = s; mask = m; of-family = f; size-kept = λ v. refl; fields-turned = k }
+turns : {r : Row} (family : Family) → ((w : ℕ) → value (r .layout) w "S" ≡ part w (signAt family) 1) → maskOf (r .layout) (code "S") ≡ signOf family
+    → ((v : Letters) → r .fields v .family ≡ family) → ((v : Letters) → r .reserved (otherS v) ≡ r .reserved v) → ((v : Letters) → r .fields (otherS v) ≡ turned (r .fields v))
+    → Turns r
+turns family s m f z k = record { family = family; s-at = s; mask = m; of-family = f; size-kept = z; fields-turned = k }
 
 pub table-turns : Each Turns table
+unfolding turned
 table-turns =
-    record { family = ByElement; s-at = λ w. refl; mask = refl; of-family = λ v. family-a v (eqb (v "s") 0b01); size-kept = λ v. refl; fields-turned = turned-a }
-    then record { family = Vector; s-at = λ w. refl; mask = refl; of-family = λ v. refl; size-kept = λ v. refl; fields-turned = turned-b }
-    then turns Saturating rowC16 (fieldsC 16) (λ w. refl) refl (λ v. refl) (λ v. turned-c v 16)
-    then turns Saturating rowC32 (fieldsC 32) (λ w. refl) refl (λ v. refl) (λ v. turned-c v 32)
-    then turns LongLong rowD2 (fieldsD 2) (λ w. refl) refl (λ v. refl) (λ v. turned-d v 2)
-    then turns LongLong rowD4 (fieldsD 4) (λ w. refl) refl (λ v. refl) (λ v. turned-d v 4)
-    then turns Long rowE2 (fieldsE 2) (λ w. refl) refl (λ v. refl) (λ v. turned-e v 2)
-    then turns Long rowE4 (fieldsE 4) (λ w. refl) refl (λ v. refl) (λ v. turned-e v 4)
+    turns ByElement (λ w. refl) refl (λ v. family-a v (eqb (v "s") 0b01)) (λ v. refl) (λ v. rw (s-back v) (turned-a v (eqb (v "s") 0b01)))
+    then turns Vector (λ w. refl) refl (λ v. refl) (λ v. refl) (λ v. rw (s-back v))
+    then turns Saturating (λ w. refl) refl (λ v. refl) (λ v. refl) (λ v. rw (s-back v))
+    then turns Saturating (λ w. refl) refl (λ v. refl) (λ v. refl) (λ v. rw (s-back v))
+    then turns LongLong (λ w. refl) refl (λ v. refl) (λ v. refl) (λ v. rw (s-back v))
+    then turns LongLong (λ w. refl) refl (λ v. refl) (λ v. refl) (λ v. rw (s-back v))
+    then turns Long (λ w. refl) refl (λ v. refl) (λ v. refl) (λ v. rw (s-back v))
+    then turns Long (λ w. refl) refl (λ v. refl) (λ v. refl) (λ v. rw (s-back v))
     then tt
