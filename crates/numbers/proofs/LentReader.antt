@@ -47,7 +47,7 @@ abbrev pub Next : {M : Type 1} (𝓤 : URA M) (H : Heap 𝓤) (A : Atoms 𝓤) (
 Next 𝓤 H A at-mem run = tripleOf 𝓤 H A next.signature (next.spec 𝓤 H A at-mem run)
 
 -- the type of a reader whose list lives for κ
-abbrev α : Lft → NamedLft
+abbrev pub α : Lft → NamedLft
 α κ = record { mir = named 1; lft = κ }
 
 abbrev pub R : Lft → RattleType

@@ -94,12 +94,6 @@ struct Reader<'a> {
     at: usize,
 }
 
-fn new<'a>(list: &'a [u8], at: usize) -> Reader<'a>
-    ensures { λ r. ⌜ (r .list ≡ list .entry) × (r .at ≡ at) ⌝ }
-{
-    Reader { list, at }
-}
-
 // Where a reader stands after what it answered at a place.
 fn after(read: Read, at: usize) -> usize
     ensures { λ r. ⌜ r ≡ placeAfter read at ⌝ }
@@ -171,7 +165,7 @@ pub fn read_seven(list: &[u8], at: usize, out: &mut [u32]) -> Row
     ensures { λ r. ⌜ (r ≡ rowOf (numbersAt (now (list .entry)) at (length (now (out .entry)))))
         × (now (out .exit) ≡ filled (numbersAt (now (list .entry)) at (length (now (out .entry)))) (now (out .entry))) ⌝ }
 {
-    let mut reader = new(list, at);
+    let mut reader = Reader { list, at };
     let vl = next(&mut reader);
     let features = next(&mut reader);
     let modes = next(&mut reader);
