@@ -15,7 +15,7 @@ use Rattle.elements.proofs.Vectors.{vector-cong}
 use Rattle.lanes.specs.Lane.{step}
 use Rattle.lanes.specs.Widths.{IsWidth}
 use Rattle.lanes.proofs.Widths.{by-width}
-use Rattle.recipes.specs.Recipe.{Recipe}
+use Rattle.recipes.specs.Recipe.{Recipe, recipe}
 use Rattle.recipes.specs.Element.{newElement, newBytes}
 use Rattle.recipes.proofs.Built.{newElement-at, element-newBytes}
 use Rattle.chunks.specs.Chunk.{evenly, evenBytes, Reach, partStep, chunk, Apart}
@@ -26,7 +26,7 @@ use Rattle.chunks.proofs.Joined.{joined-cong, elements-joined, element-
 module _ (lane wide : ℕ) (u s : Bool) (sx i sy j : ℕ) (old : List ℕ) (at : ℕ) (z : List ℕ) (n m : ℕ) where
   -- it takes lanes i and j first
   abbrev pub evenlyFrom : Recipe
-  evenlyFrom = record { saturating = false; unsigned = u; subtract = s; lane = lane; wide = wide; first = each sx i; second = each sy j }
+  evenlyFrom = recipe false u s lane wide (each sx i) (each sy j)
 
   even-element : (x y e : ℕ) → x ≡ n + i * (lane / 8) → y ≡ m + j * (lane / 8)
       → newElement (evenly lane wide u s sx sy) (drop at old) (drop x z) (drop y z) e ≡ newElement evenlyFrom (drop at old) (drop n z) (drop m z) e

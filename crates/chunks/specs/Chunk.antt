@@ -9,21 +9,12 @@ use lib.ListN.{length, drop}
 use Rattle.elements.specs.Lanes.{each, chosenAt}
 use Rattle.elements.specs.Elements.{elementAt}
 use Rattle.lanes.specs.Lane.{laneStep}
-use Rattle.recipes.specs.Recipe.{Recipe}
+use Rattle.recipes.specs.Recipe.{Recipe, recipe}
 use Rattle.recipes.specs.Element.{newBytes}
 
 -- elements whose lanes lie at even steps: from one to the next, so many lanes of the first source, and so many of the second
 abbrev pub evenly : ℕ → ℕ → Bool → Bool → ℕ → ℕ → Recipe
-evenly lane wide unsigned subtract first second =
-    record {
-      saturating = false;
-      unsigned = unsigned;
-      subtract = subtract;
-      lane = lane;
-      wide = wide;
-      first = each first 0;
-      second = each second 0;
-    }
+evenly lane wide unsigned subtract first second = recipe false unsigned subtract lane wide (each first 0) (each second 0)
 
 -- `bytes` new bytes of such elements: they stand in `old` from byte `at` on, and their lanes in z from bytes x and y on
 abbrev pub evenBytes : ℕ → ℕ → Bool → Bool → List ℕ → ℕ → List ℕ → ℕ → ℕ → ℕ → ℕ → ℕ → List ℕ

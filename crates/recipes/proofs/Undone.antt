@@ -17,7 +17,7 @@ use Rattle.elements.proofs.Vectors.{vector-known}
 use Rattle.lanes.specs.Lane.{step}
 use Rattle.lanes.specs.Widths.{IsWidth}
 use Rattle.lanes.proofs.Laws.{undo-step}
-use Rattle.recipes.specs.Recipe.{Recipe, recipeOf}
+use Rattle.recipes.specs.Recipe.{Recipe, recipe, recipeOf}
 use Rattle.recipes.specs.Element.{newElement, newBytes}
 use Rattle.recipes.proofs.Built.{power, whole-elements, element-ends, length-new, element-newBytes}
 
@@ -31,16 +31,7 @@ saturates-c Long f i = refl
 
 -- what r adds is subtracted, and what it subtracts is added
 abbrev pub opposite : Recipe → Recipe
-opposite r =
-    record {
-      saturating = r .saturating;
-      unsigned = r .unsigned;
-      subtract = not (r .subtract);
-      lane = r .lane;
-      wide = r .wide;
-      first = r .first;
-      second = r .second;
-    }
+opposite r = recipe (r .saturating) (r .unsigned) (not (r .subtract)) (r .lane) (r .wide) (r .first) (r .second)
 
 -- it is the recipe of the partner's fields
 pub recipe-turned : (family : Family) (f : Fields) (i : ℕ) → recipeOf family (turned f) i ≡ opposite (recipeOf family f i)

@@ -17,18 +17,22 @@ pub record Recipe : Type 0 where
   pub first : Choice
   pub second : Choice
 
--- products that wrap, added to or subtracted from elements of k·lane bits
-abbrev pub wrapping : Fields → ℕ → Choice → Choice → Recipe
-wrapping f k first second =
+-- one of these parts
+abbrev pub recipe : Bool → Bool → Bool → ℕ → ℕ → Choice → Choice → Recipe
+recipe saturating unsigned subtract lane wide first second =
     record {
-      saturating = false;
-      unsigned = f .unsigned;
-      subtract = f .subtract;
-      lane = f .lane;
-      wide = k * f .lane;
+      saturating = saturating;
+      unsigned = unsigned;
+      subtract = subtract;
+      lane = lane;
+      wide = wide;
       first = first;
       second = second;
     }
+
+-- products that wrap, added to or subtracted from elements of k·lane bits
+abbrev pub wrapping : Fields → ℕ → Choice → Choice → Recipe
+wrapping f k first second = recipe false (f .unsigned) (f .subtract) (f .lane) (k * f .lane) first second
 
 -- the elements of the 64-bit half Q: 64/lane of them
 abbrev pub halfOf : Fields → Choice
@@ -37,15 +41,7 @@ halfOf f = each 1 (f .part * (64 / f .lane))
 -- C's way through its registers, whatever is done with the lanes: element 2e+T, with element 2s+index
 abbrev pub bySegment : Bool → Bool → Bool → ℕ → ℕ → ℕ → Recipe
 bySegment saturating unsigned subtract lane part index =
-    record {
-      saturating = saturating;
-      unsigned = unsigned;
-      subtract = subtract;
-      lane = lane;
-      wide = 2 * lane;
-      first = each 2 part;
-      second = eachSegment 2 index;
-    }
+    recipe saturating unsigned subtract lane (2 * lane) (each 2 part) (eachSegment 2 index)
 
 -- the recipe of the vector that a word of Z writes, and of vector i of the k that a word of ZA writes for a source register
 abbrev pub recipeOf : Family → Fields → ℕ → Recipe
