@@ -24,7 +24,7 @@ use Rattle.encoding.proofs.Theorems.{encodes-unique}
 use Rattle.machine.specs.Execute.{Outcome}
 use Rattle.numbers.specs.declared.Read.{Read}
 use Rattle.numbers.specs.declared.Read.the-variants.{Number}
-use Rattle.runlist.specs.Plan.{Lent, lengthsOf, Found, refused, Asked, mostWords, zLength, settingsOf, asking, afterCount, wordsFrom, zFrom, settledFrom, planOf}
+use Rattle.runlist.specs.Plan.{Lent, lengthsOf, Found, found, refused, Asked, mostWords, zLength, settingsOf, asking, afterCount, wordsFrom, zFrom, settledFrom, planOf}
 use Rattle.runlist.specs.RunList.{Ended, carriedOut, runPaper}
 use Rattle.demands.proofs.Execution as execution
 use Rattle.demands.proofs.Lists as lists
@@ -113,7 +113,10 @@ module _ (list z za report : List ℕ) where
         by-report = λ head at n from c h k. leads (refused BadLength 0) (at-words head at n from c ∙ rw (le-leb n mostWords h, lt-leb (3 * n) (length report) k));
         in-words = λ head at n from c h k vs r p e. leads (refused r p) (at-words head at n from c ∙ rw (le-leb n mostWords h, le-leb (3 * n) (length report) k, e));
         by-end = λ head at n from c h k ws p e u. leads (refused ExtraBytes p) (at-words head at n from c ∙ rw (le-leb n mostWords h, le-leb (3 * n) (length report) k, e, ne-eqb p (length list) u));
-        accepted = λ head at n from c h k ws e. ap (λ (o : Ended). o .number) (leads _ (at-words head at n from c ∙ rw (le-leb n mostWords h, le-leb (3 * n) (length report) k, e, eq-eqb (length list) (length list) refl)));
+        accepted =
+            λ head at n from c h k ws e. ap (λ (o : Ended). o .number)
+            (leads (found (record { settings = settings head at; z = take (zLength (settings head at)) (drop at list); words = ws }))
+            (at-words head at n from c ∙ rw (le-leb n mostWords h, le-leb (3 * n) (length report) k, e, eq-eqb (length list) (length list) refl)));
       }
 
 -- ---- what a refused call leaves
