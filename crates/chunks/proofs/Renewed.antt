@@ -20,8 +20,8 @@ use Rattle.bits.specs.Bits.{toggled}
 use Rattle.bits.specs.Replace.{Replaced}
 use Rattle.bits.proofs.Bits.{toggled-same}
 use Rattle.bits.proofs.Put.{Upto, Turned, few-ones, untouched, turn, all}
-use Rattle.recipes.specs.Element.{newElement, newBytes}
-use Rattle.recipes.proofs.Built.{newElement-at, length-new, Bytes-newBytes}
+use Rattle.lanes.specs.Element.{newElement, newBytes}
+use Rattle.lanes.proofs.Built.{newElement-at, length-new, Bytes-newBytes}
 use Rattle.chunks.specs.Chunk.{evenly, evenBytes, chunk, OfArray}
 use Rattle.chunks.proofs.Parts.{by-array}
 use Rattle.chunks.proofs.Strides.{chunk-at}

@@ -15,9 +15,9 @@ use Rattle.elements.proofs.Vectors.{vector-cong}
 use Rattle.lanes.specs.Lane.{step}
 use Rattle.lanes.specs.Widths.{IsWidth}
 use Rattle.lanes.proofs.Widths.{by-width}
-use Rattle.recipes.specs.Recipe.{Recipe, recipe}
-use Rattle.recipes.specs.Element.{newElement, newBytes}
-use Rattle.recipes.proofs.Built.{newElement-at, element-newBytes}
+use Rattle.lanes.specs.Recipe.{Recipe, recipe}
+use Rattle.lanes.specs.Element.{newElement, newBytes}
+use Rattle.lanes.proofs.Built.{newElement-at, element-newBytes}
 use Rattle.chunks.specs.Chunk.{evenly, evenBytes, Reach, partStep, chunk, Apart}
 use Rattle.chunks.proofs.Joined.{joined-cong, elements-joined, element-of}
 

@@ -9,8 +9,8 @@ use lib.ListN.{length, drop}
 use Rattle.elements.specs.Lanes.{each, chosenAt}
 use Rattle.elements.specs.Elements.{elementAt}
 use Rattle.lanes.specs.Lane.{laneStep}
-use Rattle.recipes.specs.Recipe.{Recipe, recipe}
-use Rattle.recipes.specs.Element.{newBytes}
+use Rattle.lanes.specs.Recipe.{Recipe, recipe}
+use Rattle.lanes.specs.Element.{newBytes}
 
 -- elements whose lanes lie at even steps: from one to the next, so many lanes of the first source, and so many of the second
 abbrev pub evenly : ℕ → ℕ → Bool → Bool → ℕ → ℕ → Recipe

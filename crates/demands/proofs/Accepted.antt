@@ -18,7 +18,7 @@ use Rattle.elements.specs.Elements.{elementOf}
 use Rattle.lanes.specs.Lane.{step}
 use Rattle.bits.proofs.Bits.{toggled-same}
 use Rattle.recipes.specs.Recipe.{recipeOf, newLength, perSource}
-use Rattle.recipes.specs.Element.{newElement}
+use Rattle.lanes.specs.Element.{newElement}
 use Rattle.recipes.proofs.Inside.{in-half}
 use Rattle.machine.specs.Step.{register, zAfter, stride, selected, firstVector, zaAfter}
 use Rattle.machine.specs.Execute.{stepped}

@@ -24,8 +24,8 @@ use Rattle.bits.specs.Bits.{toggled}
 use Rattle.bits.proofs.Bits.{differ-unmoved, differ-once, bytes-splice-le}
 use Rattle.bits.proofs.Files.{bytes-replaced-le}
 use Rattle.recipes.specs.Recipe.{recipeOf, newLength, perSource}
-use Rattle.recipes.specs.Element.{newElement, newBytes}
-use Rattle.recipes.proofs.Built.{element-ends, element-newBytes, Bytes-newBytes}
+use Rattle.lanes.specs.Element.{newElement, newBytes}
+use Rattle.lanes.proofs.Built.{element-ends, element-newBytes, Bytes-newBytes}
 use Rattle.recipes.proofs.Inside.{new-length, widths, length-newBytes}
 use Rattle.machine.specs.Step.{register, newRegister, zAfter, stride, firstVector, writesVector, newVector, zaAfter}
 use Rattle.machine.specs.Loop.{place, becomes, IntoZa}

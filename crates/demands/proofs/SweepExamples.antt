@@ -17,7 +17,7 @@ use Rattle.words.proofs.Answers.{not-c}
 use Rattle.elements.specs.Elements.{lowBytes, vector, element}
 use Rattle.elements.specs.Files.{vectorAt, laid, renewed}
 use Rattle.elements.proofs.Vectors.{Bytes-vector}
-use Rattle.recipes.specs.Element.{newBytes}
+use Rattle.lanes.specs.Element.{newBytes}
 use Rattle.machine.specs.Step.{register, newRegister, zAfter}
 use Rattle.machine.specs.Execute.{stepped, executePaper}
 use Rattle.machine.specs.Run.{Report, Run}

@@ -13,7 +13,7 @@ use Rattle.elements.specs.Elements.{Bytes, elementAt, element, lowBytes, vector
 use Rattle.elements.specs.Files.{vectorAt, laid, renewed}
 use Rattle.lanes.specs.Lane.{SInt, Int, low, product, accumulate, laneStep, clamp, SignedSat, satStep, step}
 use Rattle.bits.specs.Bits.{overBits, overBytes}
-use Rattle.recipes.specs.Element.{newElement, newBytes}
+use Rattle.lanes.specs.Element.{newElement, newBytes}
 use Rattle.machine.specs.Step.{register, newRegister, zAfter, stride, selected, firstVector, someBelow, writesVector, newVector, zaAfter}
 use Rattle.machine.specs.Execute.{stepped, executePaper}
 use Rattle.machine.specs.Run.{Report, runOf}

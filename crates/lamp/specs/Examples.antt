@@ -9,7 +9,7 @@ use Rattle.elements.specs.Files.{vectorAt, renewed}
 use Rattle.lanes.specs.Lane.{SInt, Int, low, product, accumulate, laneStep, step}
 use Rattle.bits.specs.Bits.{overBits, overBytes}
 use Rattle.numbers.specs.Numbers.{numeral, numberAt, numbersAt}
-use Rattle.recipes.specs.Element.{newElement, newBytes}
+use Rattle.lanes.specs.Element.{newElement, newBytes}
 use Rattle.machine.specs.Step.{stride, selected, firstVector, someBelow, writesVector, newVector, zaAfter}
 use Rattle.machine.specs.Execute.{stepped, executePaper}
 use Rattle.machine.specs.Run.{runOf}

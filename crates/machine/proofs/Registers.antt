@@ -15,7 +15,7 @@ use Rattle.elements.specs.Elements.{splice}
 use Rattle.elements.specs.Files.{vectorAt, replaced}
 use Rattle.elements.proofs.Files.{next, room, length-vectorAt, splice-part, replaced-renewed}
 use Rattle.recipes.specs.Recipe.{recipeOf, newLength}
-use Rattle.recipes.specs.Element.{newBytes}
+use Rattle.lanes.specs.Element.{newBytes}
 use Rattle.recipes.proofs.Inside.{new-length, length-newBytes}
 use Rattle.machine.specs.Step.{register, newRegister, zAfter}
 

@@ -17,10 +17,11 @@ use Rattle.elements.specs.Files.{vectorAt}
 use Rattle.elements.proofs.Vectors.{within}
 use Rattle.elements.proofs.Files.{next, room}
 use Rattle.bits.specs.Replace.{Replaced}
-use Rattle.recipes.specs.Recipe.{Recipe, recipeOf, newLength, perSource}
-use Rattle.recipes.specs.Element.{newBytes, Inside, OfC, RegistersThere}
+use Rattle.lanes.specs.Recipe.{Recipe}
+use Rattle.recipes.specs.Recipe.{recipeOf, newLength, perSource, OfC}
+use Rattle.lanes.specs.Element.{newBytes, Inside, RegistersThere}
 use Rattle.recipes.proofs.Inside.{inside}
-use Rattle.recipes.proofs.Built.{newBytes-within}
+use Rattle.lanes.proofs.Built.{newBytes-within}
 use Rattle.machine.specs.Loop.{made, RegisterRenewed, IntoZa, Sources, Places}
 
 -- ZA has 65,536 bytes at most

@@ -21,7 +21,7 @@ use Rattle.chunks.specs.Chunk.{evenBytes, Reach, OfArray}
 use Rattle.chunks.proofs.Parts.{array-widths}
 use Rattle.chunks.proofs.Strides.{even-bytes}
 use Rattle.recipes.specs.Recipe.{wrapping, recipeOf, newLength, perSource}
-use Rattle.recipes.specs.Element.{newBytes, Inside}
+use Rattle.lanes.specs.Element.{newBytes, Inside}
 use Rattle.recipes.proofs.Inside.{half-in, index-in, inside}
 use Rattle.machine.specs.Loop.{made, RegisterRenewed, IntoZa, Sources, Places}
 use Rattle.machine.proofs.Renewal.{source-lt, first-source, register-there, renewal, whole-vector}

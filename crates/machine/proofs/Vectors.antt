@@ -17,7 +17,7 @@ use Rattle.bits.specs.Replace.{Replaced}
 use Rattle.bits.proofs.Bits.{differ-unmoved}
 use Rattle.bits.proofs.Files.{bytes-replaced}
 use Rattle.recipes.specs.Recipe.{recipeOf, perSource}
-use Rattle.recipes.specs.Element.{newBytes}
+use Rattle.lanes.specs.Element.{newBytes}
 use Rattle.recipes.proofs.Inside.{length-newBytes}
 use Rattle.machine.specs.Loop.{made, Grid, place, becomes, Places}
 use Rattle.machine.proofs.Grid.{r-lt, i-lt, place-lt, place-distinct}

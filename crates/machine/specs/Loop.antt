@@ -14,7 +14,7 @@ use Rattle.words.specs.declared.Fields.{Fields}
 use Rattle.elements.specs.Files.{vectorAt}
 use Rattle.bits.specs.Replace.{Replaced}
 use Rattle.recipes.specs.Recipe.{recipeOf, newLength}
-use Rattle.recipes.specs.Element.{newBytes}
+use Rattle.lanes.specs.Element.{newBytes}
 
 -- w vectors are `group` rows of `stride`; in each row, k of them from `first` on
 pub record Grid (w group stride k first : ℕ) : Type 0 where

@@ -9,7 +9,7 @@ use Rattle.settings.specs.declared.Settings.{Settings}
 use Rattle.words.specs.declared.Fields.{Fields}
 use Rattle.elements.specs.Files.{vectorAt, renewed}
 use Rattle.recipes.specs.Recipe.{recipeOf, newLength, perSource}
-use Rattle.recipes.specs.Element.{newBytes}
+use Rattle.lanes.specs.Element.{newBytes}
 
 -- Z register r
 abbrev pub register : Settings → List ℕ → ℕ → List ℕ

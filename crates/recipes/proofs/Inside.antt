@@ -15,8 +15,8 @@ use Rattle.elements.proofs.Lanes.{by-lane}
 use Rattle.lanes.specs.Widths.{Widths}
 use Rattle.lanes.proofs.Widths.{doubled, quadrupled}
 use Rattle.recipes.specs.Recipe.{recipeOf, newLength, perSource}
-use Rattle.recipes.specs.Element.{newBytes, Inside}
-use Rattle.recipes.proofs.Built.{length-new}
+use Rattle.lanes.specs.Element.{newBytes, Inside}
+use Rattle.lanes.proofs.Built.{length-new}
 
 -- the new bytes are whole elements, and no more than the register's
 pub new-length : (family : Family) (w : ℕ) → VectorLength w → (newLength family w % 8 ≡ 0) × (newLength family w ≤ w)

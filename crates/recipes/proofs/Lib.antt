@@ -1,4 +1,3 @@
-pub mod Built
 pub mod Inside
 pub mod Saturating
 pub mod Undone

@@ -7,8 +7,8 @@ use mathlib.Core.List.{List}
 use Rattle.words.specs.declared.Family.the-variants.{Saturating}
 use Rattle.words.specs.declared.Fields.{Fields}
 use Rattle.elements.specs.Elements.{vector}
-use Rattle.recipes.specs.Recipe.{recipeOf}
-use Rattle.recipes.specs.Element.{newElement, newBytes, OfC}
+use Rattle.recipes.specs.Recipe.{recipeOf, OfC}
+use Rattle.lanes.specs.Element.{newElement, newBytes}
 
 -- the code counts elements of lane / 4 bytes, of which there are some
 pub some-bytes : {lane : ℕ} → OfC lane → 0 < lane / 4

@@ -17,9 +17,10 @@ use Rattle.elements.proofs.Vectors.{vector-known}
 use Rattle.lanes.specs.Lane.{step}
 use Rattle.lanes.specs.Widths.{IsWidth}
 use Rattle.lanes.proofs.Laws.{undo-step}
-use Rattle.recipes.specs.Recipe.{Recipe, recipe, recipeOf}
-use Rattle.recipes.specs.Element.{newElement, newBytes}
-use Rattle.recipes.proofs.Built.{power, whole-elements, element-ends, length-new, element-newBytes}
+use Rattle.lanes.specs.Recipe.{Recipe, recipe}
+use Rattle.recipes.specs.Recipe.{recipeOf}
+use Rattle.lanes.specs.Element.{newElement, newBytes}
+use Rattle.lanes.proofs.Built.{power, whole-elements, element-ends, length-new, element-newBytes}
 
 -- only products of C saturate
 pub saturates-c : (family : Family) (f : Fields) (i : ℕ) → recipeOf family f i .saturating ≡ isC family

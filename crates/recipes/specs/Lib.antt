@@ -1,2 +1,1 @@
 pub mod Recipe
-pub mod Element

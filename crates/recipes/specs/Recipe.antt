@@ -1,34 +1,13 @@
 -- Document 01, "What a step does": which elements go into which. One recipe a family, and nothing else differs between them.
 use Prim.Native.Nat.{ℕ, _*_, _/_}
+use mathlib.Core.Path.{_≡_}
+use mathlib.Core.Logic.{_⊎_}
 use mathlib.Core.Bool.{Bool, true, false}
 use Rattle.elements.specs.Lanes.{Choice, each, eachSegment}
+use Rattle.lanes.specs.Recipe.{Recipe, recipe}
 use Rattle.words.specs.declared.Family.{Family}
 use Rattle.words.specs.declared.Family.the-variants.{ByElement, Vector, Saturating, LongLong, Long}
 use Rattle.words.specs.declared.Fields.{Fields}
-
--- how a written vector is made
-pub record Recipe : Type 0 where
-  pub saturating : Bool
-  pub unsigned : Bool
-  pub subtract : Bool
-  -- the bits of a source element, and those of a written one
-  pub lane : ℕ
-  pub wide : ℕ
-  pub first : Choice
-  pub second : Choice
-
--- one of these parts
-abbrev pub recipe : Bool → Bool → Bool → ℕ → ℕ → Choice → Choice → Recipe
-recipe saturating unsigned subtract lane wide first second =
-    record {
-      saturating = saturating;
-      unsigned = unsigned;
-      subtract = subtract;
-      lane = lane;
-      wide = wide;
-      first = first;
-      second = second;
-    }
 
 -- products that wrap, added to or subtracted from elements of k·lane bits
 abbrev pub wrapping : Fields → ℕ → Choice → Choice → Recipe
@@ -70,3 +49,9 @@ perSource Vector = 1
 perSource Saturating = 1
 perSource LongLong = 4
 perSource Long = 2
+
+-- ---- only contracts and proofs use this
+
+-- a lane of C has 16 or 32 bits
+abbrev pub OfC : ℕ → Type 0
+OfC lane = (lane ≡ 16) ⊎ (lane ≡ 32)

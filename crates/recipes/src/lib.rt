@@ -8,8 +8,8 @@ ghost use Rattle.elements.specs.Elements.{elementAt, putAt};
 ghost use Rattle.lanes.specs.Lane.{satStep};
 ghost use Rattle.lanes.specs.Widths.{Widths};
 ghost use Rattle.words.specs.declared.Family.the-variants.{Saturating};
-ghost use Rattle.recipes.specs.Recipe.{bySegment, recipeOf};
-ghost use Rattle.recipes.specs.Element.{newElement, newBytes, OfC, ElementThere, RegistersThere};
+ghost use Rattle.lanes.specs.Element.{newElement, newBytes, ElementThere, RegistersThere};
+ghost use Rattle.recipes.specs.Recipe.{bySegment, recipeOf, OfC};
 use words::Fields;
 
 // An element of `wide` bits after a step, of the old one and of the lanes at bytes x and y. Widths are literals where it is called, so that the

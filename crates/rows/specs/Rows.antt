@@ -18,8 +18,9 @@ use Rattle.elements.specs.Files.{vectorAt, laid, renewed}
 use Rattle.lanes.specs.Lane.{SInt, Int, low, product, accumulate, laneStep, clamp, SignedSat, satStep, step}
 use Rattle.bits.specs.Bits.{overBits, overBytes, toggled}
 use Rattle.rate.specs.Rate.{percentOf}
-use Rattle.recipes.specs.Recipe.{Recipe, recipeOf}
-use Rattle.recipes.specs.Element.{newElement, newBytes}
+use Rattle.lanes.specs.Recipe.{Recipe}
+use Rattle.recipes.specs.Recipe.{recipeOf}
+use Rattle.lanes.specs.Element.{newElement, newBytes}
 use Rattle.machine.specs.Step.{newRegister, zAfter, stride, selected, firstVector, someBelow, writesVector, newVector, zaAfter}
 use Rattle.machine.specs.Execute.{Outcome, stepped, executePaper}
 

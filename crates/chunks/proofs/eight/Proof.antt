@@ -6,7 +6,7 @@ use native.Mathlib.Omega.{arith}
 use lib.ListN.{length, drop}
 use borrow.Author.Needs.{needs}
 use Rattle.elements.proofs.Vectors.{putEach}
-use Rattle.recipes.specs.Element.{newElement}
+use Rattle.lanes.specs.Element.{newElement}
 use Rattle.chunks.specs.Chunk.{evenly}
 use Rattle.chunks.proofs.Renewed.{own-put, all-put}
 use Rattle.chunks.proofs.eight.Statement.{statement}

@@ -9,8 +9,8 @@ use borrow.Author.Needs.{needs}
 use Rattle.elements.proofs.Vectors.{putEach, putEach-turn, putEach-end}
 use Rattle.words.specs.declared.Family.the-variants.{Saturating}
 use Rattle.recipes.specs.Recipe.{bySegment, recipeOf}
-use Rattle.recipes.specs.Element.{newElement}
-use Rattle.recipes.proofs.Built.{whole-elements, element-ends, there}
+use Rattle.lanes.specs.Element.{newElement}
+use Rattle.lanes.proofs.Built.{whole-elements, element-ends, there}
 use Rattle.recipes.proofs.Saturating.{some-bytes, count-is, c-bytes}
 use Rattle.recipes.proofs.build.Statement.{statement}
 use Rattle.recipes.proofs.build.Tie as tie

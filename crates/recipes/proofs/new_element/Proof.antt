@@ -9,8 +9,8 @@ use Rattle.elements.proofs.Lanes.{wider-lane}
 use Rattle.lanes.proofs.Widths.{doubled}
 use Rattle.lanes.specs.Lane.{step}
 use Rattle.recipes.specs.Recipe.{bySegment}
-use Rattle.recipes.specs.Element.{ElementThere}
-use Rattle.recipes.proofs.Built.{newElement-at}
+use Rattle.lanes.specs.Element.{ElementThere}
+use Rattle.lanes.proofs.Built.{newElement-at}
 use Rattle.recipes.proofs.new_element.Statement.{statement}
 use Rattle.recipes.proofs.new_element.Tie as tie
 

@@ -10,12 +10,12 @@ use Rattle.elements.specs.Elements.{elementAt, elementOf}
 use Rattle.elements.proofs.Elements.{Bytes, pow256, elementAt-take, elementAt-drop}
 use Rattle.elements.proofs.Lanes.{chosen-inside}
 use Rattle.elements.proofs.Vectors.{within, length-vector, vector-cong, vector-element, Bytes-vector}
 use Rattle.lanes.specs.Lane.{step}
 use Rattle.lanes.specs.Widths.{IsWidth}
 use Rattle.lanes.proofs.Laws.{step-lt}
 use Rattle.lanes.proofs.Widths.{by-width}
-use Rattle.recipes.specs.Recipe.{Recipe}
-use Rattle.recipes.specs.Element.{newElement, newBytes, Inside, ElementThere, RegistersThere}
+use Rattle.lanes.specs.Recipe.{Recipe}
+use Rattle.lanes.specs.Element.{newElement, newBytes, Inside, ElementThere, RegistersThere}
 
 -- ---- elements of a width
 

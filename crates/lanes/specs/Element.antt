@@ -1,14 +1,13 @@
 -- A written vector, element by element, and that all that goes into it is there.
 use Prim.Native.Nat.{ℕ, _+_, _*_, _/_, _%_, _≤_}
 use mathlib.Core.Path.{_≡_}
-use mathlib.Core.Logic.{_⊎_}
 use mathlib.Core.List.{List}
 use lib.ListN.{length}
 use Rattle.elements.specs.Lanes.{chosen, chosenAt, Reaches}
 use Rattle.elements.specs.Elements.{elementOf, vector}
 use Rattle.lanes.specs.Lane.{step}
 use Rattle.lanes.specs.Widths.{Widths}
-use Rattle.recipes.specs.Recipe.{Recipe}
+use Rattle.lanes.specs.Recipe.{Recipe}
 
 -- element e of the new vector, of the old one and of the two source registers
 unfoldable pub newElement : Recipe → List ℕ → List ℕ → List ℕ → ℕ → ℕ
@@ -23,10 +22,6 @@ unfoldable pub newBytes : Recipe → ℕ → List ℕ → List ℕ → List ℕ 
 newBytes r bytes old first second = vector (newElement r old first second) (r .wide / 8) (8 * bytes / r .wide)
 
 -- ---- only contracts and proofs use this
-
--- a lane of C has 16 or 32 bits
-abbrev pub OfC : ℕ → Type 0
-OfC lane = (lane ≡ 16) ⊎ (lane ≡ 32)
 
 -- the first `bytes` bytes of a vector are whole elements, and what goes into them lies in registers of w bytes
 pub record Inside (r : Recipe) (bytes w : ℕ) : Type 0 where
