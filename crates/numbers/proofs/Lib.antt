@@ -3,6 +3,4 @@ pub mod Turns
 pub mod Shortest
 pub mod Places
 pub mod Rows
-pub mod Seven
-pub mod LentReader
 pub mod Forms

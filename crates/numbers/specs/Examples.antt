@@ -4,7 +4,7 @@ use mathlib.Core.List.{[], _∷_}
 use Rattle.settings.specs.declared.Refusal.the-variants.{ListEnds, BadNumber}
 use Rattle.numbers.specs.declared.Read.the-variants.{Number, Fault}
 use Rattle.numbers.specs.declared.Row.the-variants as row
-use Rattle.numbers.specs.Numbers.{numeral, numberAt, putIn, put, all, fault, numbersAt, valuesOf, rowOf, filled, placeAfter}
+use Rattle.numbers.specs.Numbers.{numeral, numberAt, putIn, put, all, fault, numbersAt, valuesOf, rowOf, filled}
 
 -- ---- numbers that are read, and how they are put
 
@@ -110,15 +110,3 @@ row-told = refl
 rest-stays : filled (numbersAt (0x05 ∷ 0x81 ∷ 0x00 ∷ 0x80 ∷ []) 0 3) (91 ∷ 92 ∷ 93 ∷ []) ≡ 5 ∷ 92 ∷ 93 ∷ []
 unfolding filled valuesOf numbersAt numberAt numeral
 rest-stays = refl
-
--- ---- a reader that is asked again and again
-
--- it stands behind the number, at the next
-goes-on : placeAfter (numberAt (0xAC ∷ 0x02 ∷ 0x07 ∷ []) 0) 0 ≡ 2
-unfolding numberAt numeral
-goes-on = refl
-
--- at a fault it stays, and answers the same again
-stays : placeAfter (numberAt (0x05 ∷ 0x81 ∷ 0x00 ∷ 0x07 ∷ []) 1) 1 ≡ 1
-unfolding numberAt numeral
-stays = refl

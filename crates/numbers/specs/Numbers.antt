@@ -3,7 +3,7 @@ use Prim.Native.Nat.{ℕ, zero, suc, _+_, _-_, _*_, _/_, _%_}
 use mathlib.Core.Bool.{_&&_, cond}
 use mathlib.Core.List.{List, [], _∷_, _++_}
 use lib.Dec.{eqb, ltb}
-use lib.ListN.{length, drop, set}
+use lib.ListN.{length, drop}
 use Rattle.settings.specs.declared.Refusal.{Refusal}
 use Rattle.settings.specs.declared.Refusal.the-variants.{ListEnds, BadNumber}
 use Rattle.numbers.specs.declared.Read.{Read}
@@ -100,20 +100,3 @@ rowOf (fault ws refusal place) = row.Fault refusal place
 unfoldable pub filled : Numbers → List ℕ → List ℕ
 unfolding valuesOf
 filled m out = valuesOf m ++ drop (length (valuesOf m)) out
-
--- ---- a reader that is asked again and again
-
--- where it stands after an answer at a place: behind the number, or, at a fault, where it stood
-abbrev pub placeAfter : Read → ℕ → ℕ
-placeAfter (Number value next) at = next
-placeAfter (Fault refusal place) at = at
-
--- how a row ended, of its last answer: asked again at a fault, the reader answers the same fault
-abbrev pub endOf : Read → Row
-endOf (Number value next) = row.Next next
-endOf (Fault refusal place) = row.Fault refusal place
-
--- an answer in its place of out: a number is stored there, and a fault leaves out as it was
-abbrev pub storedAt : Read → ℕ → List ℕ → List ℕ
-storedAt (Number value next) i out = set out i value
-storedAt (Fault refusal place) i out = out

@@ -159,7 +159,7 @@ pub fn read_front(list: &[u8], z: usize, za: usize, report: usize, head: &mut [u
     ensures { λ r. ⌜ FrontRead (now (list .entry)) (record { z = z; za = za; report = report }) (now (head .exit)) r ⌝ }
     ensures { λ r. ⌜ now (head .exit) ≡ filled (numbersAt (now (list .entry)) 0 7) (now (head .entry)) ⌝ }
 {
-    match numbers::read_seven(list, 0, head) {
+    match reader::read_seven(list, 0, head) {
         Row::Fault { refusal, place } => Front::Refused {
             refusal: refusal,
             place: place,

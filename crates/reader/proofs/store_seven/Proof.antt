@@ -1,9 +1,9 @@
--- `numbers::store_seven` meets its contract. Assumes nothing.
+-- `reader::store_seven` meets its contract. Assumes nothing.
 use mathlib.Core.Path.{ap, _∙_}
 use borrow.Author.Needs.{needs}
-use Rattle.numbers.specs.Numbers.{storedAt}
-use Rattle.numbers.proofs.store_seven.Statement.{statement}
-use Rattle.numbers.proofs.store_seven.Tie as tie
+use Rattle.reader.specs.Moves.{storedAt}
+use Rattle.reader.proofs.store_seven.Statement.{statement}
+use Rattle.reader.proofs.store_seven.Tie as tie
 
 store-requires : tie.Need-store-requires
 store-requires c κs = search needs

@@ -33,14 +33,15 @@ use denote.Triple.Statement.{Contract, Triple}
 use denote.Triple.Call.{calls-at}
 use denote.Triple.Clauses.{ensured, lasts}
 use denote.Triple.Spec.{tripleOf}
-use Rattle.numbers.specs.Numbers.{numberAt, placeAfter}
-use Rattle.numbers.specs.declared.Reader.{Reader}
+use Rattle.numbers.specs.Numbers.{numberAt}
+use Rattle.reader.specs.Moves.{placeAfter}
+use Rattle.reader.specs.declared.Reader.{Reader}
 use Rattle.numbers.specs.declared.Read.{Read}
-use Rattle.numbers.proofs.Reader as T
-use Rattle.numbers.proofs.Reader.Laws as T′
+use Rattle.reader.proofs.Reader as T
+use Rattle.reader.proofs.Reader.Laws as T′
 use Rattle.numbers.proofs.Read as S
-use Rattle.numbers.proofs.next as next
-use Rattle.numbers.proofs.next.Symbol.{name as #numbers·next}
+use Rattle.reader.proofs.next as next
+use Rattle.reader.proofs.next.Symbol.{name as #reader·next}
 
 -- the contract of the call
 abbrev pub Next : {M : Type 1} (𝓤 : URA M) (H : Heap 𝓤) (A : Atoms 𝓤) (at-mem : Memory → SProp 𝓤) (run : Routine → Fun 𝓤) → Contract 𝓤
@@ -108,11 +109,11 @@ module _ {M : Type 1} (𝓤 : URA M) (H : Heap 𝓤) (A : Atoms 𝓤) (W : Given
 
 module _ {M : Type 1} {𝓤 : URA M} {H : Heap 𝓤} {A : Atoms 𝓤} {K : Type 0} {W : Given 𝓤 H A} {Γ : List (Item 𝓤)} {E : Env 𝓤 H} {C : Calls 𝓤 H} {Λ : Loops 𝓤 H} {Q : Post 𝓤 H} {d : Place} {xs : List Opd} {rest : Code} where
   -- d = next(xs), where xs is the address of the local l, which has the reader h
-  pub asks : K → (at-mem : Memory → SProp 𝓤) (run : Routine → Fun 𝓤) (κ : Lft) (q : Share) → FmC 𝓤 H (W .laws) C → Triple 𝓤 (C #numbers·next) (Next 𝓤 H A at-mem run) → (l : ℕ) (h : Reader)
+  pub asks : K → (at-mem : Memory → SProp 𝓤) (run : Routine → Fun 𝓤) (κ : Lft) (q : Share) → FmC 𝓤 H (W .laws) C → Triple 𝓤 (C #reader·next) (Next 𝓤 H A at-mem run) → (l : ℕ) (h : Reader)
       → ((ν : ℕ) (γ : GName)
       → Opds K W (raw (Next 𝓤 H A at-mem run .pre (to 𝓤 H A W at-mem run κ q l h ν γ)) ∷ ‵ (flent (ν ∷ κ) (Body (mem (R κ)) l 0 γ)) ∷ raw (Rest 𝓤 H A W ν (PosShare·right q)) ∷ Γ) E xs (vptr l 0 ∷ []))
       → ((x : Answer) → x .read ≡ numberAt (now (h .list)) (h .at) → Seq K W (‵ (cell l (gone h x)) ∷ ‵ (own κ (gone h x)) ∷ ‵ (flft κ q) ∷ Γ) (lands C Λ E d (x .val) rest Q))
-      → Seq K W (‵ (cell l h) ∷ ‵ (own κ h) ∷ ‵ (flft κ q) ∷ Γ) (runs C Λ E (seq (call #numbers·next xs d) rest) Q)
+      → Seq K W (‵ (cell l h) ∷ ‵ (own κ h) ∷ ‵ (flft κ q) ∷ Γ) (runs C Λ E (seq (call #reader·next xs d) rest) Q)
   asks k at-mem run κ q fm known l h reads then =
       use2 W (‵ (mem (R κ) .lies h l 0)) (lay 𝓤 H A W κ h l) $ lft-new k tt (λ ν. move k (2 ∷ []) $
       -- half of the token of κ goes into that of ν within κ

@@ -1,4 +1,4 @@
--- `numbers::read_seven` meets its contract: a walk of its MIR, by hand. The reader is made in a local, which is lent to `next` seven times (`asks`),
+-- `reader::read_seven` meets its contract: a walk of its MIR, by hand. The reader is made in a local, which is lent to `next` seven times (`asks`),
 -- and the answers go to `store_seven`. Of each call only the contract is used; that the answers are a row is `seven`. Assumes nothing.
 use mathlib.Core.Path.{_≡_, refl, sym, ap, _∙_}
 use Prim.Native.Nat.{ℕ, _<_, _^_}
@@ -38,28 +38,29 @@ use denote.Triple.Spec.{Meets, tripleOf}
 use denote.Triple.Table.{entered, cited}
 use denote.Triple.Walked.{says, needs, Stays, stay-none, stay-none-slice, gave-slice, walkOf, goes-none, goes-none-slice, goes-gave-slice, Walks, ends-at, walked, walk-meets}
 use denote.Exit.{yes}
-use Rattle.numbers.specs.Numbers.{numbersAt, rowOf, filled, endOf, storedAt}
-use Rattle.numbers.specs.declared.Reader.{Reader}
+use Rattle.numbers.specs.Numbers.{numbersAt, rowOf, filled}
+use Rattle.reader.specs.Moves.{endOf, storedAt}
+use Rattle.reader.specs.declared.Reader.{Reader}
 use Rattle.numbers.specs.declared.Row.{Row}
-use Rattle.numbers.proofs.Seven.{Answers, seven}
-use Rattle.numbers.proofs.LentReader.{Next, α, own, Answer, gone, asks, ends}
-use Rattle.numbers.proofs.Reader as T
-use Rattle.numbers.proofs.Reader.Laws as T′
+use Rattle.reader.proofs.Seven.{Answers, seven}
+use Rattle.reader.proofs.LentReader.{Next, α, own, Answer, gone, asks, ends}
+use Rattle.reader.proofs.Reader as T
+use Rattle.reader.proofs.Reader.Laws as T′
 use Rattle.numbers.proofs.Read as S
 use Rattle.numbers.proofs.Read.Laws as S′
 use Rattle.numbers.proofs.Row as P
 use Rattle.numbers.proofs.Row.Laws as P′
-use Rattle.numbers.proofs.next.Symbol as next-def
-use Rattle.numbers.proofs.next.Symbol.{name as #numbers·next}
-use Rattle.numbers.proofs.next.Met as next-thm
-use Rattle.numbers.proofs.store_seven as store_seven
-use Rattle.numbers.proofs.store_seven.Symbol as store-seven-def
-use Rattle.numbers.proofs.store_seven.Symbol.{name as #numbers·store-seven}
-use Rattle.numbers.proofs.store_seven.Met as store-seven-thm
-use Rattle.numbers.proofs.read_seven.Key.{name as #numbers·read-seven}
-use Rattle.numbers.proofs.read_seven as read_seven
-use Rattle.numbers.proofs.read_seven.Statement as stated
-use Rattle.numbers.proofs.read_seven.Code as code
+use Rattle.reader.proofs.next.Symbol as next-def
+use Rattle.reader.proofs.next.Symbol.{name as #reader·next}
+use Rattle.reader.proofs.next.Met as next-thm
+use Rattle.reader.proofs.store_seven as store_seven
+use Rattle.reader.proofs.store_seven.Symbol as store-seven-def
+use Rattle.reader.proofs.store_seven.Symbol.{name as #reader·store-seven}
+use Rattle.reader.proofs.store_seven.Met as store-seven-thm
+use Rattle.reader.proofs.read_seven.Key.{name as #reader·read-seven}
+use Rattle.reader.proofs.read_seven as read_seven
+use Rattle.reader.proofs.read_seven.Statement as stated
+use Rattle.reader.proofs.read_seven.Code as code
 
 abbrev stayed : Stays (read_seven.ended .signature .params) (read_seven.ended .kept)
 stayed = (stay-none-slice (0 ∷ []) tt (plain (λ _. u8)) yes, (stay-none (λ _. usize) yes, (gave-slice (1 ∷ []) tt (plain (λ _. u32)), tt)))
@@ -148,7 +149,7 @@ module _ {M : Type 1} (𝓤 : URA M) (H : Heap 𝓤) (A : Atoms 𝓤) (W : Given
   abbrev Lasts : Type 0
   Lasts = List ℕ × (Unit {0} × (Unit {0} × (Unit {0} × (Unit {0} × (Unit {0} × (Unit {0} × (Unit {0} × Unit {0})))))))
 
-  module _ (C : Calls 𝓤 H) (Λ : Loops 𝓤 H) (fm : FmC 𝓤 H (W .laws) C) (known-next : Triple 𝓤 (C #numbers·next) (Next 𝓤 H A mem run)) (known-store : Triple 𝓤 (C #numbers·store-seven) (StoreSeven 𝓤 H A mem run)) where
+  module _ (C : Calls 𝓤 H) (Λ : Loops 𝓤 H) (fm : FmC 𝓤 H (W .laws) C) (known-next : Triple 𝓤 (C #reader·next) (Next 𝓤 H A mem run)) (known-store : Triple 𝓤 (C #reader·store-seven) (StoreSeven 𝓤 H A mem run)) where
     walk : Is (ShrSlice (named 0) κ u8) s (v ∷ []) → Room u32 (length ys) → ent 𝓤 (onEntry 𝓤 H A read_seven.signature (κ, (κ′, tt)) (q, (q′, tt)) a vals) (WpFn 𝓤 H C Λ code.function (v ∷ vint w64 n ∷ o ∷ []) Post)
     walk p room =
         qed W ((‵ (flft κ q) ⊛ ‵ (flft κ′ q′) ⊛ ‵ ftrue) ∷ ‵ (owns (ShrSlice (named 0) κ u8 ∷ usize ∷ MutSlice (named 1) κ′ u32 ∷ []) a vals) ∷ []) ∵ enter ! C Λ code.function (v ∷ vint w64 n ∷ o ∷ []) _ $
@@ -204,7 +205,7 @@ module _ {M : Type 1} (𝓤 : URA M) (H : Heap 𝓤) (A : Atoms 𝓤) (W : Given
         keep ! (0 ∷ 1 ∷ 2 ∷ 5 ∷ 6 ∷ []) $ by ! (exits x₀ x₁ x₂ x₃ x₄ x₅ x₆ r y (zs .0) (e₀, (e₁, (e₂, (e₃, (e₄, (e₅, (e₆, tt))))))) st l)))))))))))))))))))))))))))))))))))
 
 module _ {M : Type 1} (𝓤 : URA M) (H : Heap 𝓤) (A : Atoms 𝓤) (W : Given 𝓤 H A) (mem : Memory → SProp 𝓤) (run : Routine → Fun 𝓤) where
-  read-seven-walks : (C : Calls 𝓤 H) (Λ : Loops 𝓤 H) → FmC 𝓤 H (W .laws) C → Triple 𝓤 (C #numbers·next) (Next 𝓤 H A mem run) → Triple 𝓤 (C #numbers·store-seven) (StoreSeven 𝓤 H A mem run)
+  read-seven-walks : (C : Calls 𝓤 H) (Λ : Loops 𝓤 H) → FmC 𝓤 H (W .laws) C → Triple 𝓤 (C #reader·next) (Next 𝓤 H A mem run) → Triple 𝓤 (C #reader·store-seven) (StoreSeven 𝓤 H A mem run)
       → Walks 𝓤 H A read_seven.ended stayed (WpFn 𝓤 H C Λ code.function) (read_seven.clauses 𝓤 H A mem run)
   read-seven-walks C Λ fm known-next known-store = walked 𝓤 H A read_seven.ended stayed (read_seven.clauses 𝓤 H A mem run) (WpFn 𝓤 H C Λ code.function)
       (λ κs. (slice-vals, (uint-vals w64, (slice-vals, tt)))) (λ κs. (shr-slice-tells (named 0) (κs .0) u8, (uint-tells w64, (mut-slice-tells (named 1) (κs .1 .0) u32, tt))))
@@ -213,7 +214,7 @@ module _ {M : Type 1} (𝓤 : URA M) (H : Heap 𝓤) (A : Atoms 𝓤) (W : Given
       C Λ fm known-next known-store (are .0) (are .1 .1 .0 .0 .1)))
 
 read-seven-meets : {M : Type 1} (𝓤 : URA M) (H : Heap 𝓤) (A : Atoms 𝓤) (W : Given 𝓤 H A) (mem : Memory → SProp 𝓤) (run : Routine → Fun 𝓤) (𝓣 : Tables 𝓤 H)
-    → Triple 𝓤 (𝓣 .C #numbers·next) (Next 𝓤 H A mem run) → Triple 𝓤 (𝓣 .C #numbers·store-seven) (StoreSeven 𝓤 H A mem run)
+    → Triple 𝓤 (𝓣 .C #reader·next) (Next 𝓤 H A mem run) → Triple 𝓤 (𝓣 .C #reader·store-seven) (StoreSeven 𝓤 H A mem run)
     → Meets 𝓤 H A read_seven.signature (WpFn 𝓤 H (𝓣 .C) (𝓣 .Λ) code.function) (read_seven.spec 𝓤 H A mem run)
 read-seven-meets 𝓤 H A W mem run 𝓣 known-next known-store =
     walk-meets 𝓤 H A read_seven.ended stayed W
@@ -224,7 +225,7 @@ pub read-seven-spec : {M : Type 1} → stated.statement M
 unfolding code.routine tablesOf
 read-seven-spec 𝓤 H 𝓜 𝓖 𝓡 =
     entered 𝓤 H (tripleOf 𝓤 H (𝓖 .A) read_seven.signature (read_seven.spec 𝓤 H (𝓖 .A) (𝓜 .mem) (𝓡 .run)))
-    (tables 𝓤 H 𝓜 𝓡 code.env .C) (tables 𝓤 H 𝓜 𝓡 code.env .Λ) #numbers·read-seven code.function (code.unfolded 𝓤 H 𝓜 𝓡)
+    (tables 𝓤 H 𝓜 𝓡 code.env .C) (tables 𝓤 H 𝓜 𝓡 code.env .Λ) #reader·read-seven code.function (code.unfolded 𝓤 H 𝓜 𝓡)
     (read-seven-meets 𝓤 H (𝓖 .A) (givenOf 𝓤 H 𝓜 𝓖) (𝓜 .mem) (𝓡 .run) (tablesOf 𝓤 H 𝓜 (tables 𝓤 H 𝓜 𝓡 code.env))
-    (cited 𝓤 H (Next 𝓤 H (𝓖 .A) (𝓜 .mem) (𝓡 .run)) 𝓜 𝓡 code.env #numbers·next next-def.routine code.calls-numbers·next (next-thm.met 𝓤 H 𝓜 𝓖 𝓡))
-    (cited 𝓤 H (StoreSeven 𝓤 H (𝓖 .A) (𝓜 .mem) (𝓡 .run)) 𝓜 𝓡 code.env #numbers·store-seven store-seven-def.routine code.calls-numbers·store-seven (store-seven-thm.met 𝓤 H 𝓜 𝓖 𝓡)))
+    (cited 𝓤 H (Next 𝓤 H (𝓖 .A) (𝓜 .mem) (𝓡 .run)) 𝓜 𝓡 code.env #reader·next next-def.routine code.calls-reader·next (next-thm.met 𝓤 H 𝓜 𝓖 𝓡))
+    (cited 𝓤 H (StoreSeven 𝓤 H (𝓖 .A) (𝓜 .mem) (𝓡 .run)) 𝓜 𝓡 code.env #reader·store-seven store-seven-def.routine code.calls-reader·store-seven (store-seven-thm.met 𝓤 H 𝓜 𝓖 𝓡)))

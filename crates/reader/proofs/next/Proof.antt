@@ -1,4 +1,4 @@
--- `numbers::next` meets its contract: a walk of its MIR, by hand. The outer borrow is opened, which gives the reader's cell and what the reader owns; of a copy of
+-- `reader::next` meets its contract: a walk of its MIR, by hand. The outer borrow is opened, which gives the reader's cell and what the reader owns; of a copy of
 -- that the list goes to `read_number`; `after` gives the next place, which is stored in the cell; and the borrow is closed at the reader with the new place.
 -- All that the proof knows of `read_number` and of `after` is that each meets its contract. Assumes nothing.
 use mathlib.Core.Path.{_≡_, refl, ap}
@@ -45,25 +45,26 @@ use denote.Triple.Entry.{Vals, onEntry}
 use denote.Triple.Spec.{Meets, tripleOf}
 use denote.Triple.Table.{entered, cited}
 use denote.Triple.Walked.{says, Stays, stay-ref, walkOf, goes-ref, Walks, ends-at, walked, walk-meets}
-use Rattle.numbers.specs.Numbers.{numberAt, placeAfter}
-use Rattle.numbers.specs.declared.Reader.{Reader}
+use Rattle.numbers.specs.Numbers.{numberAt}
+use Rattle.reader.specs.Moves.{placeAfter}
+use Rattle.reader.specs.declared.Reader.{Reader}
 use Rattle.numbers.specs.declared.Read.{Read}
-use Rattle.numbers.proofs.Reader as T
-use Rattle.numbers.proofs.Reader.Laws as T′
+use Rattle.reader.proofs.Reader as T
+use Rattle.reader.proofs.Reader.Laws as T′
 use Rattle.numbers.proofs.Read as S
 use Rattle.numbers.proofs.Read.Laws as S′
 use Rattle.numbers.proofs.read_number as number
 use Rattle.numbers.proofs.read_number.Symbol as number-def
 use Rattle.numbers.proofs.read_number.Symbol.{name as #numbers·read-number}
 use Rattle.numbers.proofs.read_number.Met as number-thm
-use Rattle.numbers.proofs.after as after
-use Rattle.numbers.proofs.after.Symbol as after-def
-use Rattle.numbers.proofs.after.Symbol.{name as #numbers·after}
-use Rattle.numbers.proofs.after.Met as after-thm
-use Rattle.numbers.proofs.next.Key.{name as #numbers·next}
-use Rattle.numbers.proofs.next as next
-use Rattle.numbers.proofs.next.Statement as stated
-use Rattle.numbers.proofs.next.Code as code
+use Rattle.reader.proofs.after as after
+use Rattle.reader.proofs.after.Symbol as after-def
+use Rattle.reader.proofs.after.Symbol.{name as #reader·after}
+use Rattle.reader.proofs.after.Met as after-thm
+use Rattle.reader.proofs.next.Key.{name as #reader·next}
+use Rattle.reader.proofs.next as next
+use Rattle.reader.proofs.next.Statement as stated
+use Rattle.reader.proofs.next.Code as code
 
 -- 'a, and the struct's type at it
 abbrev α : Lft → NamedLft
@@ -171,7 +172,7 @@ module _ {M : Type 1} (𝓤 : URA M) (H : Heap 𝓤) (A : Atoms 𝓤) (W : Given
       move ! (2 ∷ 3 ∷ []) $ join ! $ frame ! $ feqI ! (List Val) (vptr b o ∷ []) (vptr b o ∷ []) refl $ fjoin3 ! $ nothing ! $ move ! (1 ∷ 0 ∷ []) $ fjoin ! $
       owned ! S.the-row (Is S.the-row) (EL.makes S.the-type S′.the-plain 𝓤 H A) r _ is $ move ! (1 ∷ 0 ∷ []) $ done !
 
-  module _ (C : Calls 𝓤 H) (Λ : Loops 𝓤 H) (fm : FmC 𝓤 H (W .laws) C) (known : Triple 𝓤 (C #numbers·read-number) (ReadNumber 𝓤 H A at-mem run)) (known-after : Triple 𝓤 (C #numbers·after) (After 𝓤 H A at-mem run)) where
+  module _ (C : Calls 𝓤 H) (Λ : Loops 𝓤 H) (fm : FmC 𝓤 H (W .laws) C) (known : Triple 𝓤 (C #numbers·read-number) (ReadNumber 𝓤 H A at-mem run)) (known-after : Triple 𝓤 (C #reader·after) (After 𝓤 H A at-mem run)) where
     walk : ent 𝓤 (onEntry 𝓤 H A next.signature (κ, (κ′, tt)) (q, (q′, tt)) x at) (WpFn 𝓤 H C Λ code.function (vptr b o ∷ []) Post)
     walk =
         qed W ((‵ (flft κ q) ⊛ ‵ Tok ⊛ ‵ ftrue) ∷ ‵ (owns (MutRef (named 0) κ (B κ′) ∷ []) x at) ∷ []) ∵ enter ! C Λ code.function (vptr b o ∷ []) _ $
@@ -208,13 +209,13 @@ module _ {M : Type 1} (𝓤 : URA M) (H : Heap 𝓤) (A : Atoms 𝓤) (W : Given
         keep ! (0 ∷ 1 ∷ 2 ∷ 4 ∷ []) $ by ! (exits r u i is e e′)))))))))))))))))
 
 module _ {M : Type 1} (𝓤 : URA M) (H : Heap 𝓤) (A : Atoms 𝓤) (W : Given 𝓤 H A) (mem : Memory → SProp 𝓤) (run : Routine → Fun 𝓤) where
-  next-walks : (C : Calls 𝓤 H) (Λ : Loops 𝓤 H) → FmC 𝓤 H (W .laws) C → Triple 𝓤 (C #numbers·read-number) (ReadNumber 𝓤 H A mem run) → Triple 𝓤 (C #numbers·after) (After 𝓤 H A mem run)
+  next-walks : (C : Calls 𝓤 H) (Λ : Loops 𝓤 H) → FmC 𝓤 H (W .laws) C → Triple 𝓤 (C #numbers·read-number) (ReadNumber 𝓤 H A mem run) → Triple 𝓤 (C #reader·after) (After 𝓤 H A mem run)
       → Walks 𝓤 H A next.ended stayed (WpFn 𝓤 H C Λ code.function) (next.clauses 𝓤 H A mem run)
   next-walks C Λ fm known known-after = walked 𝓤 H A next.ended stayed (next.clauses 𝓤 H A mem run) (WpFn 𝓤 H C Λ code.function) (λ κs. (ptr-vals, tt)) (λ κs. (mut-tells (named 0) (κs .0) (B (κs .1 .0)), tt))
       (λ κs qs bounds a _ are. via 𝓤 _ (fst∗ 𝓤 _ (emp 𝓤)) (walk 𝓤 H A W mem run (κs .0) (κs .1 .0) (qs .0) (qs .1 .0) bounds (a .0 .ptr .0) (a .0 .ptr .1) (a .0 .name) (a .0 .now) C Λ fm known known-after))
 
 next-meets : {M : Type 1} (𝓤 : URA M) (H : Heap 𝓤) (A : Atoms 𝓤) → Given 𝓤 H A → (mem : Memory → SProp 𝓤) (run : Routine → Fun 𝓤) (𝓣 : Tables 𝓤 H)
-    → Triple 𝓤 (𝓣 .C #numbers·read-number) (ReadNumber 𝓤 H A mem run) → Triple 𝓤 (𝓣 .C #numbers·after) (After 𝓤 H A mem run)
+    → Triple 𝓤 (𝓣 .C #numbers·read-number) (ReadNumber 𝓤 H A mem run) → Triple 𝓤 (𝓣 .C #reader·after) (After 𝓤 H A mem run)
     → Meets 𝓤 H A next.signature (WpFn 𝓤 H (𝓣 .C) (𝓣 .Λ) code.function) (next.spec 𝓤 H A mem run)
 next-meets 𝓤 H A W mem run 𝓣 known known-after = walk-meets 𝓤 H A next.ended stayed W (goes-ref 𝓤 H A W 2 0 tt behind, tt) (next.clauses 𝓤 H A mem run) (WpFn 𝓤 H (𝓣 .C) (𝓣 .Λ) code.function) (WpFn-mono 𝓤 H (W .laws) 𝓣 code.function)
     (next-walks 𝓤 H A W mem run (𝓣 .C) (𝓣 .Λ) (fmOf 𝓤 H (W .laws) 𝓣) known known-after)
@@ -223,7 +224,7 @@ pub next-spec : {M : Type 1} → stated.statement M
 unfolding code.routine tablesOf
 next-spec 𝓤 H 𝓜 𝓖 𝓡 =
     entered 𝓤 H (tripleOf 𝓤 H (𝓖 .A) next.signature (next.spec 𝓤 H (𝓖 .A) (𝓜 .mem) (𝓡 .run)))
-    (tables 𝓤 H 𝓜 𝓡 code.env .C) (tables 𝓤 H 𝓜 𝓡 code.env .Λ) #numbers·next code.function (code.unfolded 𝓤 H 𝓜 𝓡)
+    (tables 𝓤 H 𝓜 𝓡 code.env .C) (tables 𝓤 H 𝓜 𝓡 code.env .Λ) #reader·next code.function (code.unfolded 𝓤 H 𝓜 𝓡)
     (next-meets 𝓤 H (𝓖 .A) (givenOf 𝓤 H 𝓜 𝓖) (𝓜 .mem) (𝓡 .run) (tablesOf 𝓤 H 𝓜 (tables 𝓤 H 𝓜 𝓡 code.env))
     (cited 𝓤 H (ReadNumber 𝓤 H (𝓖 .A) (𝓜 .mem) (𝓡 .run)) 𝓜 𝓡 code.env #numbers·read-number number-def.routine code.calls-numbers·read-number (number-thm.met 𝓤 H 𝓜 𝓖 𝓡))
-    (cited 𝓤 H (After 𝓤 H (𝓖 .A) (𝓜 .mem) (𝓡 .run)) 𝓜 𝓡 code.env #numbers·after after-def.routine code.calls-numbers·after (after-thm.met 𝓤 H 𝓜 𝓖 𝓡)))
+    (cited 𝓤 H (After 𝓤 H (𝓖 .A) (𝓜 .mem) (𝓡 .run)) 𝓜 𝓡 code.env #reader·after after-def.routine code.calls-reader·after (after-thm.met 𝓤 H 𝓜 𝓖 𝓡)))

@@ -5,9 +5,10 @@ use mathlib.Core.List.{List, [], _∷_, _++_, append-assoc}
 use native.Mathlib.Omega.{arith}
 use lib.ListN.{length, getD, drop, set, length-append}
 use lib.Seq.{drop-cons, set-at}
 use Rattle.numbers.specs.declared.Read.{Read}
 use Rattle.numbers.specs.declared.Read.the-variants.{Number, Fault}
-use Rattle.numbers.specs.Numbers.{numberAt, Numbers, all, fault, followedBy, more, numbersAt, valuesOf, rowOf, filled, placeAfter, endOf, storedAt}
+use Rattle.numbers.specs.Numbers.{numberAt, Numbers, all, fault, followedBy, more, numbersAt, valuesOf, rowOf, filled}
+use Rattle.reader.specs.Moves.{placeAfter, endOf, storedAt}
 
 -- where the reader stands once a row of n numbers was asked for: behind them, or where it answers the row's fault again
 abbrev Stands : List ℕ → Numbers → ℕ → ℕ → Type 0

@@ -1,12 +1,12 @@
--- `numbers::store` meets its contract. Assumes nothing.
+-- `reader::store` meets its contract. Assumes nothing.
 use Prim.Native.Nat.{ℕ}
 use mathlib.Core.Path.{_≡_, sym, ap}
 use mathlib.Core.List.{List}
 use borrow.Author.Needs.{needs}
-use Rattle.numbers.specs.Numbers.{endOf, storedAt}
+use Rattle.reader.specs.Moves.{endOf, storedAt}
 use Rattle.numbers.specs.declared.Read.{Read}
-use Rattle.numbers.proofs.store.Statement.{statement}
-use Rattle.numbers.proofs.store.Tie as tie
+use Rattle.reader.proofs.store.Statement.{statement}
+use Rattle.reader.proofs.store.Tie as tie
 
 -- what is known of the answer is known of both
 both : {r s : Read} (i : ℕ) (out : List ℕ) → r ≡ s → (endOf s ≡ endOf r) × (storedAt s i out ≡ storedAt r i out)

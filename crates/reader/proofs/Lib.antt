@@ -1,0 +1,2 @@
+pub mod Seven
+pub mod LentReader
