@@ -1,5 +1,5 @@
 -- The three records of specs/Demands.antt, proved. Assumes nothing.
-use mathlib.Core.Path.{_≡_, refl, sym, ap, _∙_}
+use mathlib.Core.Path.{_≡_, refl}
 use Rattle.words.proofs.Answers.{decodes-when}
 use Rattle.encoding.proofs.Theorems as encoding
 use Rattle.demands.proofs.Execution as execution
@@ -48,6 +48,7 @@ demand-1 =
       c-percent-determined = c.percent-unique;
       c-run-determined = λ list z za report totals x y p q.
           five-same x y (c.run-unique list z za report totals (x .0) (y .0) (x .1) (x .2) (x .3) (x .4) (y .1) (y .2) (y .3) (y .4) p q);
+      refusal-numbers = refl;
       decode-in-order = refusals.decode-in-order;
       encode-in-order = refusals.encode-in-order;
       partner-in-order = refusals.partner-in-order;

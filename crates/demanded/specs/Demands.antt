@@ -29,7 +29,7 @@ use Rattle.demands.specs.Reports.{ReportsAre}
 use Rattle.callinglamp.specs.Promises.{DecodePromise, EncodePromise, PartnerPromise, ExecutePromise, PercentPromise, RunPromise}
 use Rattle.host.specs.Host.{HostDecode, HostEncode, HostPartner, HostExecute, HostPercent, HostRun}
 use Rattle.host.specs.Theorems as host
-use Rattle.demanded.specs.Refusals.{DecodeInOrder, EncodeInOrder, PartnerInOrder, ListInOrder, ExecuteLeaves, RunLeaves}
+use Rattle.demanded.specs.Refusals.{RefusalNumbers, DecodeInOrder, EncodeInOrder, PartnerInOrder, ListInOrder, ExecuteLeaves, RunLeaves}
 
 -- "any two results allowed by it are equal": an answer, with all that was lent as the call left it
 abbrev pub OnlyOne : {A : Type 0} → (A → Type 0) → Type 0
@@ -59,6 +59,8 @@ pub record Demand1 : Type 0 where
   pub c-percent-determined : (toggled written : ℕ) → OnlyOne {A = ℕ} (HostPercent toggled written)
   pub c-run-determined : (list z za report totals : List ℕ)
       → OnlyOne {A = ℕ × List ℕ × List ℕ × List ℕ × List ℕ} (λ a. HostRun list z za report totals (a .0) (a .1) (a .2) (a .3) (a .4))
+  -- "bad input gets the refusal number that the paper fixes"
+  pub refusal-numbers : RefusalNumbers
   -- "Refusal numbers, tested in this order". "Decode tests 1, 3"
   pub decode-in-order : (s : Settings) (w : ℕ) → DecodeInOrder s w
   -- "encode 1, 5, 3"

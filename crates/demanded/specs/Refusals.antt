@@ -4,12 +4,12 @@ use Prim.Native.Nat.{ℕ, _+_, _*_, _<_, _≤_}
 use mathlib.Core.Path.{_≡_}
 use mathlib.Core.Logic.{_≢_}
 use mathlib.Core.Bool.{true, false}
-use mathlib.Core.List.{List}
+use mathlib.Core.List.{List, [], _∷_, map}
 use lib.ListN.{length}
 use Rattle.settings.specs.Valid.{validSettings}
 use Rattle.settings.specs.Refused.{refusalNumber}
 use Rattle.settings.specs.declared.Refusal.{Refusal}
-use Rattle.settings.specs.declared.Refusal.the-variants.{BadSettings, BadLength, ListEnds, TooManyWords, ExtraBytes}
+use Rattle.settings.specs.declared.Refusal.the-variants.{BadSettings, BadLength, UnknownWord, WrongMode, NoSuchWord, NoPartner, ListEnds, BadNumber, TooManyWords, ExtraBytes}
 use Rattle.settings.specs.declared.Settings.{Settings}
 use Rattle.words.specs.Says.{table, SaidBy}
 use Rattle.words.specs.Decode.{enables, noFields, decodePaper}
@@ -24,6 +24,13 @@ use Rattle.machine.specs.declared.Executed.the-variants as executed
 use Rattle.runlist.specs.Plan.{mostWords, zLength, settingsOf}
 use Rattle.runlist.specs.RunList.{refusedAt, runPaper, RunPromise}
 use Rattle.runlist.specs.declared.RunAnswer.the-variants as answer
+
+-- the numbers, in the order of the table and of "Further numbers"
+abbrev pub RefusalNumbers : Type 0
+RefusalNumbers =
+    map refusalNumber
+    (BadSettings ∷ BadLength ∷ UnknownWord ∷ WrongMode ∷ NoSuchWord ∷ NoPartner ∷ ListEnds ∷ BadNumber ∷ TooManyWords ∷ ExtraBytes ∷ [])
+    ≡ 1 ∷ 2 ∷ 3 ∷ 4 ∷ 5 ∷ 6 ∷ 7 ∷ 8 ∷ 9 ∷ 10 ∷ []
 
 -- ---- "Decode tests 1, 3; encode 1, 5, 3; partner 1, 3, 6"
 
