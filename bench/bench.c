@@ -70,6 +70,15 @@ static void add_other_rows(void)
     add_word_row("refused-4", &execute_call);
 }
 
+static void add_text_rows(void)
+{
+    print_heads("print and read of all kinds, half of the texts of D and E read without vgx, ns a word", "");
+    make_work(&work, 128, kinds, KINDS, WORDS);
+    make_texts(&work);
+    add_word_row("print", &print_call);
+    add_word_row("read", &read_call);
+}
+
 static void add_list_row(const char *families, uint32_t vl, const struct kind *first, size_t kinds_given)
 {
     char name[MOST_NAME];
@@ -170,6 +179,7 @@ int main(int count, char **words)
     print_start();
     add_execute_rows();
     add_other_rows();
+    add_text_rows();
     add_list_rows();
     add_growth_rows();
     print_bytes();

@@ -98,11 +98,50 @@ static void second_run_all(const struct work *w, uint32_t passes, struct answers
     }
 }
 
+static void library_print(const struct work *w, uint32_t passes, struct answers *a)
+{
+    for (uint32_t pass = 0; pass < passes; pass++)
+        for (uint32_t i = 0; i < w->count; i++) {
+            uint64_t answer = callinglamp_print(w->settings.numbers, w->words[i], a->texts[i], TEXT_ROOM);
+            a->report[3 * i] = callinglamp_refusal(answer);
+            a->words[i] = callinglamp_value(answer);
+        }
+}
+
+static void second_print_all(const struct work *w, uint32_t passes, struct answers *a)
+{
+    for (uint32_t pass = 0; pass < passes; pass++)
+        for (uint32_t i = 0; i < w->count; i++) {
+            size_t length;
+            a->report[3 * i] = (uint32_t)second_print(&w->settings.named, w->words[i], a->texts[i], TEXT_ROOM, &length);
+            a->words[i] = (uint32_t)length;
+        }
+}
+
+static void library_read(const struct work *w, uint32_t passes, struct answers *a)
+{
+    for (uint32_t pass = 0; pass < passes; pass++)
+        for (uint32_t i = 0; i < w->count; i++) {
+            uint64_t answer = callinglamp_read(w->settings.numbers, w->texts[i], w->text_lengths[i]);
+            a->report[3 * i] = callinglamp_refusal(answer);
+            a->words[i] = callinglamp_value(answer);
+        }
+}
+
+static void second_read_all(const struct work *w, uint32_t passes, struct answers *a)
+{
+    for (uint32_t pass = 0; pass < passes; pass++)
+        for (uint32_t i = 0; i < w->count; i++)
+            a->report[3 * i] = (uint32_t)second_read(&w->settings.named, w->texts[i], w->text_lengths[i], &a->words[i]);
+}
+
 const struct call execute_call = {"execute", library_execute, second_execute_all};
 const struct call decode_call = {"decode", library_decode, second_decode_all};
 const struct call encode_call = {"encode", library_encode, second_encode_all};
 const struct call partner_call = {"partner", library_partner, second_partner_all};
 const struct call run_call = {"run", library_run, second_run_all};
+const struct call print_call = {"print", library_print, second_print_all};
+const struct call read_call = {"read", library_read, second_read_all};
 
 /* The second program's run gives a count but no tally: that is the sum of its report. */
 static bool same_totals(const struct answers *library, const struct answers *second)
@@ -127,7 +166,9 @@ const char *difference(const struct answers *library, const struct answers *seco
     if (memcmp(library->sums, second->sums, sizeof library->sums) != 0)
         return "sums of counts";
     if (memcmp(library->words, second->words, sizeof library->words) != 0)
-        return "words";
+        return "words, or lengths of texts";
+    if (memcmp(library->texts, second->texts, sizeof library->texts) != 0)
+        return "texts";
     if (memcmp(library->fields, second->fields, sizeof library->fields) != 0)
         return "fields";
     if (library->answer != second->answer)

@@ -10,11 +10,12 @@
 struct answers {
     struct registers registers;
     uint32_t report[3 * SECOND_MOST_WORDS]; /* refusal, toggled, written */
-    uint32_t words[SECOND_MOST_WORDS];      /* of encode and partner */
+    uint32_t words[SECOND_MOST_WORDS];      /* of encode, partner and read; of print the lengths */
     union fields fields[SECOND_MOST_WORDS]; /* of decode */
     uint64_t answer;                        /* of run: the refusal, and above it the place */
     uint32_t totals[3];                     /* of run */
     uint64_t sums[3];                       /* of execute: the report's columns */
+    _Alignas(64) char texts[SECOND_MOST_WORDS][TEXT_ROOM]; /* of print */
 };
 
 typedef void burst(const struct work *work, uint32_t passes, struct answers *answers);
@@ -25,7 +26,7 @@ struct call {
     burst *library, *second;
 };
 
-extern const struct call execute_call, decode_call, encode_call, partner_call, run_call;
+extern const struct call execute_call, decode_call, encode_call, partner_call, run_call, print_call, read_call;
 
 /* The name of something in which the two differ, or NULL. */
 const char *difference(const struct answers *library, const struct answers *second);

@@ -1,7 +1,10 @@
 #include "work.h"
 
 #include <stdbool.h>
+#include <stdlib.h>
 #include <string.h>
+
+_Static_assert((int)TEXT_ROOM >= (int)SECOND_LONGEST_TEXT, "a text's room is long enough");
 
 const struct kind kinds[KINDS] = {
     {"A16", SECOND_FAMILY_A, 16, 1},   {"A32", SECOND_FAMILY_A, 32, 1},   {"B8", SECOND_FAMILY_B, 8, 1},
@@ -136,6 +139,33 @@ void make_list(struct work *work, uint32_t count)
     put_number(work, count);
     for (uint32_t i = 0; i < count; i++)
         put_number(work, work->words[i]);
+}
+
+/* Texts */
+
+/* A text of D or E without ", vgx2" or ", vgx4". The others have none. */
+static void leave_out_vgx(char *text, size_t *length)
+{
+    static const char start[] = ", vgx";
+    size_t cut = sizeof ", vgx2" - 1;
+    for (size_t i = 0; i + cut <= *length; i++)
+        if (memcmp(text + i, start, sizeof start - 1) == 0) {
+            *length -= cut;
+            memmove(text + i, text + i + cut, *length - i);
+            return;
+        }
+}
+
+/* Only the second program prints here, as only it encodes above. */
+void make_texts(struct work *work)
+{
+    for (uint32_t i = 0; i < work->count; i++) {
+        if (second_print(&work->settings.named, work->words[i], work->texts[i], TEXT_ROOM, &work->text_lengths[i]) !=
+            SECOND_ACCEPTED)
+            abort();
+        if ((i / KINDS + i % KINDS) % 2 == 1)
+            leave_out_vgx(work->texts[i], &work->text_lengths[i]);
+    }
 }
 
 uint32_t bytes_moved(const struct kind *kind, uint32_t vl)

@@ -1,4 +1,4 @@
-/* What is timed: words of one kind or of several, the registers that they start on, and lists of them. */
+/* What is timed: words of one kind or of several, the registers that they start on, lists of them and their texts. */
 #ifndef WORK_H
 #define WORK_H
 
@@ -7,7 +7,8 @@
 enum {
     KINDS = 13,
     STARTS = 8, /* so many different contents of Z and ZA, taken in turn, so that no branch learns one of them */
-    MOST_LIST = 7 * 5 + SECOND_MOST_Z + 5 + 5 * SECOND_MOST_WORDS
+    MOST_LIST = 7 * 5 + SECOND_MOST_Z + 5 + 5 * SECOND_MOST_WORDS,
+    TEXT_ROOM = 64 /* more than the longest text needs, so that no two share a cache line */
 };
 
 /* A family with a lane size and a group. */
@@ -43,6 +44,8 @@ struct work {
     union fields fields[SECOND_MOST_WORDS];
     uint8_t list[MOST_LIST];
     size_t list_length;
+    _Alignas(64) char texts[SECOND_MOST_WORDS][TEXT_ROOM];
+    size_t text_lengths[SECOND_MOST_WORDS];
 };
 
 /* `count` words that all differ, of the `kinds_given` kinds from `first` on in turn, with random registers. The modes
@@ -54,6 +57,9 @@ void make_unknown_words(struct work *work);
 
 /* The list of the settings, the first start's Z and the first `count` words. */
 void make_list(struct work *work, uint32_t count);
+
+/* The words' texts. Of each kind that has a vgx every other one is without it. */
+void make_texts(struct work *work);
 
 /* The bytes of Z and ZA that a word of this kind reads and writes. */
 uint32_t bytes_moved(const struct kind *kind, uint32_t vl);

@@ -1,4 +1,4 @@
-/* Callinglamp, for C and C++: the six calls of the proved library, by numbers and bytes.
+/* Callinglamp, for C and C++: the eight calls of the proved library, by numbers and bytes.
  *
  * `rt staticlib host` proves and builds target/staticlib/libhost.a, for x86-64. "Document 01" is the paper that says
  * what each call answers, and the words below are its words.
@@ -34,11 +34,14 @@ enum {
     CALLINGLAMP_LIST_ENDS = 7,      /* the list ends inside a number or the Z bytes, or before one that is due */
     CALLINGLAMP_BAD_NUMBER = 8,     /* a number whose last of several groups is zero, or whose fifth byte is above 15 */
     CALLINGLAMP_TOO_MANY_WORDS = 9, /* n above 1,024 */
-    CALLINGLAMP_EXTRA_BYTES = 10    /* bytes after the last word */
+    CALLINGLAMP_EXTRA_BYTES = 10,   /* bytes after the last word */
+    CALLINGLAMP_NOT_TEXT = 11,      /* text that is not of the language */
+    CALLINGLAMP_SHORT_ROOM = 12     /* the room is shorter than the text */
 };
 
 /* Every call but percent answers two numbers in one: the refusal number, 0 for accepted, and a value beside it. The
- * value is the word of an accepted encode or partner, the place of a refused list, and 0 otherwise. */
+ * value is the word of an accepted encode, partner or read, the length of an accepted print's text, the place of a
+ * refused list, and 0 otherwise. */
 static inline uint32_t callinglamp_refusal(uint64_t answer)
 {
     return (uint32_t)(answer & 0xFFFFFFFFu);
@@ -152,6 +155,33 @@ enum { CALLINGLAMP_MOST_WORDS = 1024 };
  *   10  place: the first extra byte */
 uint64_t callinglamp_run(const uint8_t *list, size_t list_length, uint8_t *z, size_t z_length, uint8_t *za,
                          size_t za_length, uint32_t *report, size_t report_length, uint32_t totals[3]);
+
+/* The longest text has so many bytes, so that a room of this length is long enough for any word. */
+enum { CALLINGLAMP_LONGEST_TEXT = 61 };
+
+/* Prints Arm's preferred text of a word. Its length is the answer's value.
+ *   settings           as above
+ *   word               any number: the word
+ *   room, room_length  accepted: the text, at the room's start; the rest stays
+ * A text is in ASCII and in lower case. A space stands where one stands here, and nowhere else; no line end and no NUL
+ * follows. One text of each family, A to E:
+ *     umlsl2 v1.4s, v2.8h, v3.h[5]
+ *     smlal v1.8h, v2.8b, v3.8b
+ *     sqdmlalb z1.s, z2.h, z3.h[5]
+ *     smlsll za.s[w8, 0:3, vgx2], { z0.b-z1.b }, { z2.b-z3.b }
+ *     umlal za.s[w11, 6:7, vgx4], { z0.h-z3.h }, { z28.h-z31.h }
+ * Refused with 1; 3 as in decode; 12 where the room is shorter than the text. */
+uint64_t callinglamp_print(const uint32_t settings[7], uint32_t word, char *room, size_t room_length);
+
+/* Reads a text. The word that it says is the answer's value.
+ *   settings           as above
+ *   text, text_length  any bytes
+ * The language is the texts that print gives under all features, and those of D and E also without ", vgx2" or
+ * ", vgx4": nothing else, so no capital, no other space, no leading zero, no number that no word of the family can
+ * carry, and nothing before or after.
+ * Refused with 1; 11 where the text is not of the language, whatever the features; 3 where the settings lack a feature
+ * of the word. */
+uint64_t callinglamp_read(const uint32_t settings[7], const char *text, size_t text_length);
 
 #ifdef __cplusplus
 }

@@ -12,6 +12,13 @@ int selftest_command(void);
  * NULL for all, it leaves lists out and keeps at least so many, of every kind. */
 int lists_command(const char *directory, const char *at_least);
 
+/* Answers each line with a line: eight hexadecimal digits with the word's text, any other with the word that it is the
+ * text of, or with the refusal. All features are on. */
+int spell(FILE *in, FILE *out);
+
+/* Writes lines for `spell`, the last without its end: so many, or 3,000 where the number is NULL. */
+int spell_lines_command(const char *count);
+
 enum {
     /* An accepted list has at most 7 numbers of 5 bytes, Z, a count of 2 bytes and 1,024 words of 5 bytes. What lies
      * past that is found to be extra at its first byte, so more of the input need not be kept. */

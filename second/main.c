@@ -76,8 +76,12 @@ int main(int argc, char **argv)
         code = lists_command(argv[2], argv[3]);
     else if (argc == 2 && strcmp(argv[1], "run") == 0)
         code = run_command();
+    else if (argc == 2 && strcmp(argv[1], "spell") == 0)
+        code = spell(stdin, stdout);
+    else if ((argc == 2 || argc == 3) && strcmp(argv[1], "spell-lines") == 0)
+        code = spell_lines_command(argv[2]);
     else
-        fprintf(stderr, "usage: second selftest | lists DIRECTORY [N] | run\n");
+        fprintf(stderr, "usage: second selftest | lists DIRECTORY [N] | run | spell | spell-lines [N]\n");
     /* A full disk must not look like a good run. */
     if (fflush(stdout) != 0)
         return 1;

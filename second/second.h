@@ -1,7 +1,7 @@
-/* The second program's library: document 01 in C, for holding the proved library to.
+/* The second program's library: document 01 and request One of document 02 in C, for holding the proved library to.
  *
- * Every call returns a refusal number of document 01, or 0. A refused call puts zeros in its small answers (fields, a
- * word, counts, a place) and leaves every lent buffer (Z, ZA, report) as it was. */
+ * Every call returns a refusal number of these papers, or 0. A refused call puts zeros in its small answers (fields, a
+ * word, counts, a place, a length) and leaves every lent buffer (Z, ZA, report, room) as it was. */
 #ifndef SECOND_H
 #define SECOND_H
 
@@ -29,7 +29,9 @@ enum {
     SECOND_LIST_ENDS = 7,
     SECOND_BAD_NUMBER = 8,
     SECOND_TOO_MANY_WORDS = 9,
-    SECOND_EXTRA_BYTES = 10
+    SECOND_EXTRA_BYTES = 10,
+    SECOND_NOT_TEXT = 11,
+    SECOND_SHORT_ROOM = 12
 };
 
 /* 0 is no family, so that the zeros of a refusal name none. */
@@ -67,6 +69,15 @@ size_t second_za_length(uint32_t vl);
 int second_decode(const struct second_settings *settings, uint32_t word, struct second_fields *fields);
 int second_encode(const struct second_settings *settings, const struct second_fields *fields, uint32_t *word);
 int second_partner(const struct second_settings *settings, uint32_t word, uint32_t *partner);
+
+/* The longest text has so many bytes. */
+enum { SECOND_LONGEST_TEXT = 61 };
+
+/* Puts the word's text into the room, with no line end and no NUL: the room past it stays. */
+int second_print(const struct second_settings *settings, uint32_t word, char *room, size_t room_len, size_t *length);
+
+/* Reads a text, which may hold any bytes. */
+int second_read(const struct second_settings *settings, const char *text, size_t text_len, uint32_t *word);
 
 int second_execute(const struct second_settings *settings, uint32_t word, uint8_t *z, size_t z_len, uint8_t *za,
                    size_t za_len, uint32_t *toggled, uint32_t *written);

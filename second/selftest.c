@@ -3,6 +3,7 @@
 #include "commands.h"
 #include "lists.h"
 #include "second.h"
+#include "spellings.h"
 #include "sweeps.h"
 
 #include <stdlib.h>
@@ -586,6 +587,281 @@ static void made_lists(void)
     check(made.checksum == 0x589FB005, "made lists: the same ones as ever");
 }
 
+/* Texts: the rows of the table of texts, the request's own word, and the least and the greatest numbers. */
+
+static const struct {
+    uint32_t word;
+    const char *text;
+} texts[] = {
+    {0x0F532841, "smlal v1.4s, v2.4h, v3.h[5]"},
+    {0x4F532841, "smlal2 v1.4s, v2.8h, v3.h[5]"},
+    {0x2F532841, "umlal v1.4s, v2.4h, v3.h[5]"},
+    {0x0F536841, "smlsl v1.4s, v2.4h, v3.h[5]"},
+    {0x6F7F6BFF, "umlsl2 v31.4s, v31.8h, v15.h[7]"},
+    {0x0FA32041, "smlal v1.2d, v2.2s, v3.s[1]"},
+    {0x4FA32041, "smlal2 v1.2d, v2.4s, v3.s[1]"},
+    {0x2FBF6BFF, "umlsl v31.2d, v31.2s, v31.s[3]"},
+    {0x2E23A041, "umlsl v1.8h, v2.8b, v3.8b"},
+    {0x6E23A041, "umlsl2 v1.8h, v2.16b, v3.16b"},
+    {0x0E228020, "smlal v0.8h, v1.8b, v2.8b"},
+    {0x2E638041, "umlal v1.4s, v2.4h, v3.4h"},
+    {0x4E63A041, "smlsl2 v1.4s, v2.8h, v3.8h"},
+    {0x0EA38041, "smlal v1.2d, v2.2s, v3.2s"},
+    {0x6EBFA3FF, "umlsl2 v31.2d, v31.4s, v31.4s"},
+    {0x44B32841, "sqdmlalb z1.s, z2.h, z3.h[5]"},
+    {0x44B33C41, "sqdmlslt z1.s, z2.h, z3.h[5]"},
+    {0x44BF3BFF, "sqdmlslb z31.s, z31.h, z7.h[7]"},
+    {0x44E32841, "sqdmlalb z1.d, z2.s, z3.s[1]"},
+    {0x44FF2FFF, "sqdmlalt z31.d, z31.s, z15.s[3]"},
+    {0xC1A20008, "smlsll za.s[w8, 0:3, vgx2], { z0.b-z1.b }, { z2.b-z3.b }"},
+    {0xC1BE63D1, "umlall za.s[w11, 4:7, vgx2], { z30.b-z31.b }, { z30.b-z31.b }"},
+    {0xC1A50000, "smlall za.s[w8, 0:3, vgx4], { z0.b-z3.b }, { z4.b-z7.b }"},
+    {0xC1BD6399, "umlsll za.s[w11, 4:7, vgx4], { z28.b-z31.b }, { z28.b-z31.b }"},
+    {0xC1E22009, "smlsll za.d[w9, 4:7, vgx2], { z0.h-z1.h }, { z2.h-z3.h }"},
+    {0xC1FD4090, "umlall za.d[w10, 0:3, vgx4], { z4.h-z7.h }, { z28.h-z31.h }"},
+    {0xC1E20800, "smlal za.s[w8, 0:1, vgx2], { z0.h-z1.h }, { z2.h-z3.h }"},
+    {0xC1FE6BDB, "umlsl za.s[w11, 6:7, vgx2], { z30.h-z31.h }, { z30.h-z31.h }"},
+    {0xC1E50802, "smlal za.s[w8, 4:5, vgx4], { z0.h-z3.h }, { z4.h-z7.h }"},
+    {0xC1FD2B99, "umlsl za.s[w9, 2:3, vgx4], { z28.h-z31.h }, { z28.h-z31.h }"}};
+enum { TEXTS = sizeof texts / sizeof *texts };
+
+static const struct second_settings all_on = {.vl = 128, .features = 31};
+
+/* A copy of just the text's length lets the sanitizer see a read past its end. */
+static int read_text(const struct second_settings *s, const char *text, size_t length, uint32_t *word)
+{
+    char *exact = malloc(length + (length == 0));
+    if (exact == NULL)
+        abort();
+    memcpy(exact, text, length);
+    *word = 0xA5A5A5A5;
+    int refusal = second_read(s, exact, length, word);
+    free(exact);
+    return refusal;
+}
+
+static int reads_as(const char *text, size_t length, uint32_t word)
+{
+    uint32_t read;
+    return read_text(&all_on, text, length, &read) == 0 && read == word;
+}
+
+/* Takes the vgx out of a text that may have one, and tells the new length. */
+static size_t drop_vgx(char *text, size_t length)
+{
+    for (size_t i = 0; i + 6 <= length; i++)
+        if (memcmp(text + i, ", vgx", 5) == 0) {
+            memmove(text + i, text + i + 6, length - i - 6);
+            return length - 6;
+        }
+    return length;
+}
+
+static void rows_of_texts(void)
+{
+    char room[SECOND_LONGEST_TEXT];
+    size_t length;
+    for (int i = 0; i < TEXTS; i++) {
+        const char *text = texts[i].text;
+        check(second_print(&all_on, texts[i].word, room, sizeof room, &length) == 0 && length == strlen(text) &&
+                  memcmp(room, text, length) == 0,
+              text);
+        check(reads_as(text, length, texts[i].word), text);
+        check(reads_as(room, drop_vgx(room, length), texts[i].word), text);
+    }
+}
+
+/* Whether a room of a length takes a word's text, or is refused and stays. It is watched on past its end. */
+static int prints_into(const struct second_settings *s, uint32_t word, size_t room_len, int due, const char *text)
+{
+    char room[SECOND_LONGEST_TEXT + 16], expected[sizeof room];
+    size_t length = 1000, due_length = due == 0 ? strlen(text) : 0;
+    memset(room, 0x5A, sizeof room);
+    memset(expected, 0x5A, sizeof expected);
+    memcpy(expected, text, due_length);
+    int refusal = second_print(s, word, room, room_len, &length);
+    return refusal == due && length == due_length && memcmp(room, expected, sizeof room) == 0;
+}
+
+static void rooms(void)
+{
+    for (int i = 0; i < TEXTS; i++)
+        for (size_t room_len = 0; room_len <= SECOND_LONGEST_TEXT + 8; room_len++) {
+            int due = room_len < strlen(texts[i].text) ? 12 : 0;
+            check(prints_into(&all_on, texts[i].word, room_len, due, texts[i].text), "a room of each length");
+        }
+    check(strlen("umlsll za.s[w11, 4:7, vgx4], { z28.b-z31.b }, { z28.b-z31.b }") == SECOND_LONGEST_TEXT,
+          "the longest text");
+}
+
+/* Every sum of features, those that are refused with 1 among them, and two VLs. What decode says of the word, print and
+ * read say too. */
+static void text_refusals(void)
+{
+    static const uint32_t two_vls[] = {512, 384};
+    for (int v = 0; v < 2; v++)
+        for (uint32_t features = 0; features <= 32; features++)
+            for (int i = 0; i < TEXTS; i++) {
+                struct second_settings s = {.vl = two_vls[v], .features = features};
+                const char *text = texts[i].text;
+                struct second_fields f;
+                uint32_t word;
+                int due = second_decode(&s, texts[i].word, &f), in_short = due == 0 ? 12 : due;
+                check(prints_into(&s, texts[i].word, 61, due, text), "print: 1 and 3");
+                check(prints_into(&s, texts[i].word, strlen(text) - 1, in_short, text), "print: 1 and 3 before 12");
+                check(prints_into(&s, 0, 0, due == 1 ? 1 : 3, text), "print: 1, then 3 before 12");
+                check(read_text(&s, text, strlen(text), &word) == due && word == (due == 0 ? texts[i].word : 0),
+                      "read: 1 and 3");
+                check(read_text(&s, text, strlen(text) - 1, &word) == (due == 1 ? 1 : 11) && word == 0,
+                      "read: 1, then 11 before 3");
+            }
+    struct second_settings s = {.vl = 128, .features = 1, .modes = 1};
+    check(prints_into(&s, 0, 0, 1, ""), "print: 1 by the modes");
+    size_t length = 1000;
+    check(second_print(&all_on, 0xC1A20008, NULL, 0, &length) == 12 && length == 0, "print: no room");
+    uint32_t word = 1000;
+    check(second_read(&all_on, NULL, 0, &word) == 11 && word == 0, "read: no text");
+}
+
+static const char *const not_texts[] = {
+    " ", "smlal", "C1A20008", "smlal v32.4s, v2.4h, v3.h[5]", "smlal v1.4s, v2.4h, v16.h[5]",
+    "smlal v1.4s, v2.4h, v3.h[8]", "smlal v1.2d, v2.2s, v3.s[4]", "smlal v1.8h, v2.8b, v3.b[5]",
+    "smlal v1.4s, v2.8h, v3.h[5]", "smlal2 v1.4s, v2.4h, v3.h[5]", "smlal v01.4s, v2.4h, v3.h[5]",
+    "smlal v4294967297.4s, v2.4h, v3.h[5]", "smlal v18446744073709551617.4s, v2.4h, v3.h[5]",
+    "Smlal v1.4s, v2.4h, v3.h[5]", "smlal  v1.4s, v2.4h, v3.h[5]", "smlal v1.4s,v2.4h, v3.h[5]",
+    " smlal v1.4s, v2.4h, v3.h[5]", "smlal v1.4s, v2.4h, v3.h[5] ", "smlal v1.4s, v2.4h, v3.h[5]\n",
+    "smlal v1.4s, v2.4h, v3.h[5", "smlal v1.4s, v2.4h, v-3.h[5]", "smlal v1.4s, v2.4h, v+3.h[5]",
+    "umlsl v1.8h, v2.8b, v3.16b", "umlsl v1.8h, v2.16b, v3.16b", "umlsl v1.1q, v2.1d, v3.1d",
+    "sqdmlalb z1.s, z2.h, z8.h[5]", "sqdmlalb z1.d, z2.s, z16.s[1]", "sqdmlal z1.s, z2.h, z3.h[5]",
+    "uqdmlalb z1.s, z2.h, z3.h[5]", "sqdmlalb v1.s, v2.h, v3.h[5]",
+    "smlsll za.s[w8, 0:3, vgx4], { z0.b-z1.b }, { z2.b-z3.b }", "smlsll za.s[w8, 0:3], { z1.b-z2.b }, { z2.b-z3.b }",
+    "smlsll za.s[w8, 0:3], { z0.b-z2.b }, { z0.b-z2.b }", "smlsll za.s[w8, 0:3], { z2.b-z5.b }, { z0.b-z3.b }",
+    "smlsll za.s[w8, 1:4], { z0.b-z1.b }, { z2.b-z3.b }", "smlsll za.s[w7, 0:3], { z0.b-z1.b }, { z2.b-z3.b }",
+    "smlsll za.s[w12, 0:3], { z0.b-z1.b }, { z2.b-z3.b }", "smlsll za.s[w8, 0:1], { z0.b-z1.b }, { z2.b-z3.b }",
+    "smlsll za.s[w8, 0:3], { z32.b-z33.b }, { z2.b-z3.b }", "smlsll za.s[w8, 0:3], { z0.b-z1.b }, { z4.b-z7.b }",
+    "smlsll za.d[w8, 0:3], { z0.b-z1.b }, { z2.b-z3.b }", "smlsll za.s[w8, 0:3], { z0.b, z1.b }, { z2.b, z3.b }",
+    "smlsll za.s[w8, 0:3, VGx2], { z0.b-z1.b }, { z2.b-z3.b }", "smlal za.s[w8, 8:9], { z0.h-z1.h }, { z2.h-z3.h }",
+    "smlal za.d[w8, 0:1], { z0.h-z1.h }, { z2.h-z3.h }", "smlal za.s[w8, 0:3], { z0.h-z1.h }, { z2.h-z3.h }"};
+
+static void refused_text(const char *text, size_t length)
+{
+    uint32_t word;
+    check(read_text(&all_on, text, length, &word) == 11 && word == 0, text);
+}
+
+/* Then every start of each text, and each text with any byte behind it: no text of the language is the start of
+ * another. */
+static void texts_refused(void)
+{
+    char longer[SECOND_LONGEST_TEXT + 1];
+    for (size_t i = 0; i < sizeof not_texts / sizeof *not_texts; i++)
+        refused_text(not_texts[i], strlen(not_texts[i]));
+    for (int i = 0; i < TEXTS; i++) {
+        size_t length = strlen(texts[i].text);
+        for (size_t cut = 0; cut < length; cut++)
+            refused_text(texts[i].text, cut);
+        memcpy(longer, texts[i].text, length);
+        for (int byte = 0; byte < 256; byte++) {
+            longer[length] = (char)byte;
+            refused_text(longer, length + 1);
+        }
+    }
+    static char many[100000];
+    memset(many, '1', sizeof many);
+    refused_text(memcpy(many, "smlal v", 7), sizeof many);
+}
+
+/* Words of every lane and family, with every sign, operation, part and group between them. */
+static void texts_there_and_back(void)
+{
+    static const uint32_t lanes[][2] = {{1, 16}, {1, 32}, {2, 8}, {2, 16}, {2, 32},
+                                        {3, 16}, {3, 32}, {4, 8}, {4, 16}, {5, 16}};
+    char room[2 * SECOND_LONGEST_TEXT];
+    size_t longest = 0, length;
+    start_choosing(20021104);
+    for (int i = 0; i < 100000; i++) {
+        struct second_fields f = {.family = lanes[i % 10][0], .lane = lanes[i % 10][1], .group = 1};
+        f.is_unsigned = f.family == SECOND_FAMILY_C ? 0 : choose(2);
+        choose_rest(&f);
+        uint32_t word = word_of(&f);
+        check(second_print(&all_on, word, room, sizeof room, &length) == 0 && reads_as(room, length, word),
+              "a text there and back");
+        longest = length > longest ? length : longest;
+        size_t without = drop_vgx(room, length);
+        check(without == (f.family >= SECOND_FAMILY_D ? length - 6 : length) && reads_as(room, without, word),
+              "a text without vgx");
+    }
+    check(longest == SECOND_LONGEST_TEXT, "no text is longer than the longest");
+}
+
+/* The lines for `spell`, and what it answers */
+
+static struct {
+    unsigned lines, longest, ends, refusals[13], printed, read;
+    uint32_t checksum;
+} spelled;
+
+static const char *spelled_as(const char *lines, size_t length)
+{
+    static char answers[512];
+    FILE *in = tmpfile(), *out = tmpfile();
+    if (in == NULL || out == NULL)
+        abort();
+    fwrite(lines, 1, length, in);
+    rewind(in);
+    check(spell(in, out) == 0, "spell ends well");
+    rewind(out);
+    answers[fread(answers, 1, sizeof answers - 1, out)] = '\0';
+    fclose(in);
+    fclose(out);
+    return answers;
+}
+
+static void look_at_spelling(void *context, const char *line, size_t length)
+{
+    unsigned refusal = 0;
+    (void)context;
+    spelled.lines++;
+    spelled.longest += length == MOST_SPELLING;
+    spelled.ends += memchr(line, '\n', length) != NULL;
+    for (size_t i = 0; i < length; i++)
+        spelled.checksum = (spelled.checksum ^ (uint8_t)line[i]) * 16777619u;
+    spelled.checksum = (spelled.checksum ^ '\n') * 16777619u;
+    /* An empty line has an answer when its end is there. */
+    const char *answer = length == 0 ? spelled_as("\n", 1) : spelled_as(line, length);
+    check(strchr(answer, '\n') == answer + strlen(answer) - 1, "made spellings: one answer");
+    if (sscanf(answer, "refused %u\n", &refusal) == 1)
+        spelled.refusals[refusal < 13 ? refusal : 0]++;
+    else if (strlen(answer) == 9)
+        spelled.read++;
+    else
+        spelled.printed++;
+}
+
+static void made_spellings(void)
+{
+    make_spellings(SPELLINGS_SEED, SPELLINGS, look_at_spelling, NULL);
+    check(spelled.lines == 3000 && spelled.longest == 3 && spelled.ends == 0, "made spellings: how many");
+    check(spelled.refusals[3] > 100 && spelled.refusals[11] > 1000, "made spellings: refused with 3 and with 11");
+    check(spelled.refusals[3] + spelled.refusals[11] + spelled.read + spelled.printed == 3000,
+          "made spellings: no other refusal");
+    check(spelled.printed > 400 && spelled.read > 400, "made spellings: printed and read");
+    /* This number changes only where the lines are meant to change. */
+    check(spelled.checksum == 0xBA4EA1CE, "made spellings: the same ones as ever");
+}
+
+static void spellings(void)
+{
+    static const char mixed[] = "C1A20008\nsmlal v1.4s, v2.4h, v3.h[5]\n\nc1a20008\r\n2f026020\n\0\n0E228020";
+    check(strcmp(spelled_as("", 0), "") == 0, "spell: no input");
+    check(strcmp(spelled_as("\n", 1), "refused 11\n") == 0, "spell: an empty line");
+    check(strcmp(spelled_as(mixed, sizeof mixed - 1),
+                 "smlsll za.s[w8, 0:3, vgx2], { z0.b-z1.b }, { z2.b-z3.b }\n0F532841\nrefused 11\nrefused 11\n"
+                 "refused 3\nrefused 11\nsmlal v0.8h, v1.8b, v2.8b\n") == 0,
+          "spell: lines of each kind, and a last one without its end");
+    made_spellings();
+}
+
 int selftest_command(void)
 {
     rows_of_ab();
@@ -603,6 +879,12 @@ int selftest_command(void)
     round_trips();
     made_cases();
     made_lists();
+    rows_of_texts();
+    rooms();
+    text_refusals();
+    texts_refused();
+    texts_there_and_back();
+    spellings();
     if (failures != 0) {
         printf("%u checks, %u failed\n", checks, failures);
         return 1;

@@ -10,7 +10,7 @@
 _Static_assert(sizeof(struct second_settings) == CALLINGLAMP_SETTINGS * sizeof(uint32_t), "settings are 7 numbers");
 _Static_assert(sizeof(struct second_fields) == CALLINGLAMP_FIELDS * sizeof(uint32_t), "fields are 12 numbers");
 
-static struct room settings_room, fields_room, z_room, za_room, counts_room;
+static struct room settings_room, fields_room, z_room, za_room, counts_room, short_room, long_room;
 
 void make_rooms(void)
 {
@@ -19,6 +19,8 @@ void make_rooms(void)
     z_room = make_room("z", 1, MOST_LENGTH);
     za_room = make_room("za", 1, MOST_LENGTH);
     counts_room = make_room("counts", sizeof(uint32_t), 2);
+    short_room = make_room("text", 1, MOST_SHORT);
+    long_room = make_room("text", 1, MOST_TEXT);
 }
 
 void compare_decode(const struct second_settings *s, uint32_t word)
@@ -103,6 +105,33 @@ void compare_case(const struct one_case *c)
     fill(e.z, e.z_length, c->z.kind, c->z.seed);
     fill(e.za, e.za_length, c->za.kind, c->za.seed);
     compare_execute(&e);
+}
+
+void compare_print(const struct second_settings *s, uint32_t word, size_t room_length)
+{
+    size_t length;
+    lend(&settings_room, s, CALLINGLAMP_SETTINGS);
+    lend_random(&short_room, room_length);
+    struct call call = {PRINT, {{"word", word}}, {&settings_room, &short_room}, 0, 0};
+    int refusal = second_print(s, word, (char *)due_bytes(&short_room), room_length, &length);
+    call.due = answer_of(refusal, length);
+    call.answer = callinglamp_print(numbers_of(&settings_room), word, (char *)bytes_of(&short_room), room_length);
+    judge(&call);
+}
+
+/* The whole of a room is judged, so that a short text is lent in a short one. */
+uint64_t compare_read(const struct second_settings *s, const char *text, size_t length, size_t lent)
+{
+    struct room *room = lent <= MOST_SHORT ? &short_room : &long_room;
+    uint32_t word;
+    lend(&settings_room, s, CALLINGLAMP_SETTINGS);
+    lend(room, text, lent);
+    struct call call = {READ, {{"length", (uint32_t)length}}, {&settings_room, room}, 0, 0};
+    int refusal = second_read(s, (const char *)due_bytes(room), length, &word);
+    call.due = answer_of(refusal, word);
+    call.answer = callinglamp_read(numbers_of(&settings_room), (const char *)bytes_of(room), length);
+    judge(&call);
+    return call.answer;
 }
 
 void compare_percent(uint32_t toggled, uint32_t written)

@@ -27,6 +27,14 @@ struct execution {
 /* The refusal number, or 0. */
 uint32_t compare_execute(struct execution *e);
 
+/* A print into a room of this length: 0 to MOST_SHORT. Beyond its text the room must stay, as beyond itself. */
+enum { MOST_SHORT = 256, MOST_TEXT = 70000 };
+void compare_print(const struct second_settings *s, uint32_t word, size_t room_length);
+
+/* A read of the first `length` of `lent` bytes: what lies behind them is not of the text. The library's answer: the
+ * refusal number, and above it the word. */
+uint64_t compare_read(const struct second_settings *s, const char *text, size_t length, size_t lent);
+
 /* The execution that a case says. */
 void compare_case(const struct one_case *c);
 

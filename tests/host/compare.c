@@ -37,6 +37,7 @@ int main(int argc, char **argv)
     compare_steps();
     int enough = compare_cases(seed) & compare_sweeps(seed);
     compare_runs(seed);
+    enough &= compare_texts();
     enough &= print_summary();
     if (!enough)
         return 1;

@@ -85,7 +85,7 @@ uint32_t *due_numbers(const struct room *room)
 
 /* Counts */
 
-enum { NUMBERS = 11, LEAST_CALLS = 100000 };
+enum { NUMBERS = 13, LEAST_CALLS = 100000 };
 
 static const struct {
     const char *name;
@@ -97,6 +97,8 @@ static const struct {
     [EXECUTE] = {"execute", 1u << 1 | 1u << 2 | 1u << 3 | 1u << 4},
     [PERCENT] = {"percent", 0},
     [RUN] = {"run", 1u << 1 | 1u << 2 | 1u << 7 | 1u << 8 | 1u << 9 | 1u << 10},
+    [PRINT] = {"print", 1u << 1 | 1u << 3 | 1u << 12},
+    [READ] = {"read", 1u << 1 | 1u << 3 | 1u << 11},
 };
 
 static unsigned long counts[CALLS][NUMBERS];
@@ -106,7 +108,7 @@ static uint32_t refusal_of(const struct call *call)
     return call->which == PERCENT ? 0 : callinglamp_refusal(call->due);
 }
 
-static unsigned long count_of(enum which which)
+unsigned long count_of(enum which which)
 {
     unsigned long sum = 0;
     for (int number = 0; number < NUMBERS; number++)
@@ -207,6 +209,17 @@ static void print_room(const struct room *room)
         print_contents("from both", room, room->library);
 }
 
+/* A text, with a point for each byte that is none of ASCII's signs. */
+static void print_signs(const struct room *room)
+{
+    printf("%s: \"", room->name);
+    for (size_t i = 0; i < room->length; i++) {
+        uint8_t byte = room->before[room->start + i];
+        putchar(byte >= 0x20 && byte < 0x7F ? byte : '.');
+    }
+    printf("\"\n");
+}
+
 static void print_call(const struct call *call)
 {
     printf("call %lu of callinglamp_%s: the library is not as the second program says\n", count_of(call->which),
@@ -215,6 +228,8 @@ static void print_call(const struct call *call)
         printf("%s %08X\n", call->given[i].name, (unsigned)call->given[i].number);
     for (const struct room *const *room = call->lent; *room != NULL; room++)
         print_room(*room);
+    if (call->which == READ)
+        print_signs(call->lent[1]);
     printf("answer of the library %016llX, of the second program %016llX%s\n", (unsigned long long)call->answer,
            (unsigned long long)call->due, refusal_of(call) != 0 ? ": refused, so nothing may change" : "");
 }

@@ -30,7 +30,7 @@ uint32_t *numbers_of(const struct room *room);
 uint8_t *due_bytes(const struct room *room);
 uint32_t *due_numbers(const struct room *room);
 
-enum which { DECODE, ENCODE, PARTNER, EXECUTE, PERCENT, RUN, CALLS };
+enum which { DECODE, ENCODE, PARTNER, EXECUTE, PERCENT, RUN, PRINT, READ, CALLS };
 
 struct call {
     enum which which;
@@ -48,6 +48,9 @@ uint64_t answer_of(int refusal, uint64_t value);
 /* Counts the call. Where the library differs from the second program, in its answer or in any byte, or has changed
  * something in a refused call, it prints all of the call and ends the program with 1. */
 void judge(const struct call *call);
+
+/* How many calls of a kind were judged. */
+unsigned long count_of(enum which which);
 
 /* Prints how many calls were compared, accepted, and refused with each number. Returns 0 where they are too few. */
 int print_summary(void);

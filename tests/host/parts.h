@@ -18,4 +18,7 @@ int compare_sweeps(uint32_t seed);
 /* run: the lists are made with this seed and those after it. */
 void compare_runs(uint32_t seed);
 
+/* print, read. It says how many there were, and returns 0 where they are too few. */
+int compare_texts(void);
+
 #endif

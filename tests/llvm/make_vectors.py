@@ -2,6 +2,10 @@
 """Makes crates/vectors/stdin again: words, and what LLVM's disassembler says that each is.
 
     tests/llvm/make_vectors.py [LLVM-MC]
+    tests/llvm/make_vectors.py --assemble [LLVM-MC]
+
+The second writes no file: it has LLVM assemble the texts of the stored file's words of the five families, with
+vgx and without, and says how many give another word, or none. Either wants an LLVM that knows SME2, from 16 on.
 
 LLVM-MC is the path of llvm-mc; without it PATH is searched for llvm-mc-22 .. llvm-mc-16, and then
 /usr/lib/llvm-*/bin. The committed file was made by LLVM 22. The words are chosen by a generator with a
@@ -20,7 +24,9 @@ A line, with fixed columns:
   All twelve are 0 where the word is none of the five.
 - Five letters, one for each feature set 1, 2, 4, 12, 28 of document 01: y where LLVM takes the word as one of
   the five with that set on, n where it does not, and '.' where LLVM cannot be asked.
-- LLVM's text with single spaces, or '-' where it knows no instruction.
+- LLVM's text with single spaces, or '-' where it knows no instruction. That of a word of the five is in our
+  spelling, which is LLVM's but for the lists of D and E: LLVM writes { z0.b, z1.b } and { z0.b - z3.b }, and
+  the file has { z0.b-z1.b } and { z0.b-z3.b }. Nothing else is respelled, and nothing of it comes from the bits.
 
 Where LLVM cannot be asked: it has no way to turn SME on and AdvSIMD off. Its feature sme implies bf16, which
 implies neon, so that '-neon,+sme' turns neon on again and '+sme,-neon' turns sme off again. The script finds
@@ -306,6 +312,21 @@ def read(text):
     return NONE
 
 
+# ---- Our spelling ----
+
+LIST = re.compile(r"\{ (z\d+\.\w)(?:, | - )(z\d+\.\w) \}")
+VGX = re.compile(r", vgx[24]\]")
+
+
+def respell(text):
+    """LLVM's text of a word of the five in our spelling: the first and the last vector of a list, and '-' between."""
+    return LIST.sub(r"{ \1-\2 }", text)
+
+
+def without_vgx(text):
+    return VGX.sub("]", text)
+
+
 # ---- The feature sets ----
 
 def dragged_in(llvm_mc, number):
@@ -338,8 +359,7 @@ def letters_by_set(llvm_mc, words):
     return ["".join(letter(number, at) for number in SETS) for at in range(len(words))]
 
 
-def main():
-    llvm_mc = sys.argv[1] if len(sys.argv) > 1 else find_llvm_mc()
+def make(llvm_mc):
     words = choose_words()
     texts = disassemble(llvm_mc, "+all", words)
     letters = letters_by_set(llvm_mc, words)
@@ -349,8 +369,44 @@ def main():
             fields = read(text) if text else NONE
             counts[fields[0]] += 1
             numbers = " ".join("%02d" % field for field in fields)
-            out.write("%08X %s %s %s\n" % (word, numbers, column, text or "-"))
+            ours = respell(text) if fields[0] else text or "-"
+            out.write("%08X %s %s %s\n" % (word, numbers, column, ours))
     print(len(words), "words:", ", ".join("%s %d" % pair for pair in zip(["none", *"ABCDE"], counts)))
+
+
+# ---- The way back ----
+
+def assemble(llvm_mc, texts):
+    """The word that LLVM makes of each text, or None where it refuses it. An error names the text's line by number."""
+    ran = subprocess.run([llvm_mc, "-triple=aarch64", "-mattr=+all", "-show-encoding"],
+                         input="\n".join(texts) + "\n", capture_output=True, text=True)
+    refused = {int(number) - 1 for number in re.findall(r"^<stdin>:(\d+):\d+: error: ", ran.stderr, re.M)}
+    encodings = re.findall(r"encoding: \[(.*)\]", ran.stdout)
+    if len(encodings) + len(refused) != len(texts):
+        sys.exit("LLVM gave %d words and %d errors for %d texts" % (len(encodings), len(refused), len(texts)))
+    words = (int.from_bytes([int(byte, 16) for byte in e.split(",")], "little") for e in encodings)
+    return [None if at in refused else next(words) for at in range(len(texts))]
+
+
+def assemble_stored(llvm_mc):
+    with open(OUT, encoding="ascii") as stored:
+        lines = [line.rstrip("\n") for line in stored]
+    due = [(int(line[:8], 16), line[51:]) for line in lines if line[9:11] != "00"]
+    due += [(word, without_vgx(text)) for word, text in due if VGX.search(text)]
+    wrong = 0
+    for (word, text), found in zip(due, assemble(llvm_mc, [text for _, text in due])):
+        if found != word:
+            wrong += 1
+            print("%08X" % word, text, "gives", "nothing" if found is None else "%08X" % found)
+    print(len(due), "texts assembled,", wrong, "of them to another word or to none")
+    sys.exit(wrong > 0)
+
+
+def main():
+    back = "--assemble" in sys.argv[1:2]
+    paths = sys.argv[2 if back else 1:]
+    llvm_mc = paths[0] if paths else find_llvm_mc()
+    assemble_stored(llvm_mc) if back else make(llvm_mc)
 
 
 main()

@@ -1,6 +1,6 @@
 """Holds tools/mklist to bytes that were worked out by hand, and gives some of its lists to ./lamp.
 
-It needs the Rattle kit only for ./lamp, and says so where there is none.
+It needs the Rattle kit only for ./lamp and for words that are given as text, and says so where there is none.
 """
 
 import os
@@ -16,6 +16,11 @@ ROOT = os.path.dirname(os.path.dirname(os.path.dirname(os.path.abspath(__file__)
 WORD_B = "A0 80 8A 71"
 WORD_D = "88 80 88 8D 0C"
 
+# C1A20008, 0E228020 and C1A20000 as text.
+TEXT_D = "smlsll za.s[w8, 0:3, vgx2], { z0.b-z1.b }, { z2.b-z3.b }"
+TEXT_B = "smlal v0.8h, v1.8b, v2.8b"
+TEXT_ADDS = "smlall za.s[w8, 0:3, vgx2], { z0.b-z1.b }, { z2.b-z3.b }"
+
 # Settings that are good, for cases in which something else matters.
 PLAIN = ["--vl", "128", "--features", "1", "--fill", "00"]
 PLAIN_HEAD = "80 01 01 00 00 00 00 00"
@@ -29,6 +34,8 @@ FILES = {
     "none": b"# no word at all\n",
     "bad": b"0E228020\n\n# the third line\n0E22802G\n",
     "pair": b"0E228020 C1A20008\n",
+    "texts": f"# two texts and a word\r\n{TEXT_B} # the first\r\n\n  {TEXT_D}\n0xC1A20000".encode(),
+    "capital": f"{TEXT_B}\n\n{TEXT_B.upper()}\n".encode(),
     "1025": b"0E228020\n" * 1025,
 }
 
@@ -93,6 +100,20 @@ GOOD = {
     "a file without a word": (PLAIN + ["--words", "none"], b"", plain("00")),
 }
 
+# The same, with texts among the words.
+GOOD_TEXTS = {
+    "document 01's list of texts": (
+        ["--vl", "128", "--features", "sme,sme2", "--modes", "sm,za", "--fill", "01", TEXT_D, TEXT_B, TEXT_ADDS],
+        b"",
+        GOOD["document 01's list"][2],
+    ),
+    "a text without vgx": (PLAIN + [TEXT_D.replace(", vgx2", "")], b"", plain("01" + WORD_D)),
+    "words and texts by turns": (PLAIN + ["7F", TEXT_B, "0x7f", TEXT_B], b"", plain("04 7F" + WORD_B + "7F" + WORD_B)),
+    "texts from a file": (PLAIN + ["--words", "texts"], b"", plain("03" + WORD_B + WORD_D + "80 80 88 8D 0C")),
+    "texts from standard input": (PLAIN + ["--words", "-", TEXT_D], TEXT_B.encode(), plain("02" + WORD_D + WORD_B)),
+    "1,024 texts": (PLAIN + [TEXT_B] * 1024, b"", plain("80 08" + WORD_B * 1024)),
+}
+
 SETTINGS = ["--vl", "128", "--features", "12", "--modes", "3"]
 
 # What is given, and what mklist must say of it.
@@ -128,8 +149,8 @@ BAD = [
     (PLAIN + ["00E228020"], ["word 1", "'00E228020'"]),
     (PLAIN + ["0x"], ["word 1", "'0x'"]),
     (PLAIN + ["0E_228020"], ["word 1", "'0E_228020'"]),
+    (PLAIN + [f"{TEXT_B}\n{TEXT_B}"], ["word 1", "no text"]),
     (PLAIN + ["--words", "bad"], ["bad, line 4", "'0E22802G'"]),
-    (PLAIN + ["--words", "pair"], ["pair, line 1", "'0E228020 C1A20008'"]),
     (PLAIN + ["--words", "-"], ["standard input, line 1", "'what'"]),
     (PLAIN + ["--words", "missing"], ["missing", "No such file"]),
     (PLAIN + ["--words", "1025"], ["1025 words", "1024"]),
@@ -137,6 +158,14 @@ BAD = [
     (PLAIN + ["--vl", "128"], ["--vl is given 2 times"]),
     (PLAIN + ["--force"], ["--force"]),
     (PLAIN + ["--sel", "0,0,0,0"], ["--sel"]),
+]
+
+# The same, where ./spell refuses a text.
+BAD_TEXTS = [
+    (PLAIN + ["--words", "pair"], ["pair, line 1", "'0E228020 C1A20008'", "refused 11"]),
+    (PLAIN + ["0E228020", TEXT_B, f"{TEXT_B} "], ["word 3", f"'{TEXT_B} '", "refused 11"]),
+    (PLAIN + [TEXT_D.replace("z1", "z2")], ["word 1", "{ z0.b-z2.b }"]),
+    (PLAIN + ["--words", "capital"], ["capital, line 3", "'SMLAL V0.8H, V1.8B, V2.8B'"]),
 ]
 
 # What is given, and what ./lamp prints of the list: its beginning, its end, and how many lines.
@@ -222,18 +251,24 @@ def main():
     for name, contents in FILES.items():
         with open(name, "wb") as file:
             file.write(contents)
-    for case, (arguments, given, due) in GOOD.items():
+    has_kit = shutil.which("rt") is not None
+    if has_kit:
+        # What rt says where it has to prove ./spell first does not come from mklist.
+        subprocess.run([os.path.join(ROOT, "spell"), "--where"], stdout=subprocess.DEVNULL, check=True)
+    good = GOOD | (GOOD_TEXTS if has_kit else {})
+    for case, (arguments, given, due) in good.items():
         check_good(case, arguments, given, due)
-    for arguments, said in BAD:
+    bad = BAD + (BAD_TEXTS if has_kit else [])
+    for arguments, said in bad:
         check_bad(arguments, said)
     check_files()
-    runs = RUNS if shutil.which("rt") else []
+    runs = RUNS if has_kit else []
     for each in runs:
         check_run(*each)
-    if not runs:
-        print("no Rattle kit: no list that mklist made is given to ./lamp")
+    if not has_kit:
+        print("no Rattle kit: mklist is given no text, and no list that it made is given to ./lamp")
     seconds = round(time.monotonic() - start)
-    print(f"mklist: {len(GOOD)} lists as due, {len(BAD)} faults refused, {len(runs)} lists run by ./lamp ({seconds} s)")
+    print(f"mklist: {len(good)} lists as due, {len(bad)} faults refused, {len(runs)} lists run by ./lamp ({seconds} s)")
 
 
 if __name__ == "__main__":

@@ -14,7 +14,10 @@ use Rattle.machine.proofs.Answers as machine
 use Rattle.rate.proofs.Rate as rate
 use Rattle.runlist.specs.declared.RunAnswer.{RunAnswer}
 use Rattle.runlist.proofs.Answers as runlist
-use Rattle.callinglamp.specs.Promises.{DecodePromise, EncodePromise, PartnerPromise, ExecutePromise, PercentPromise, RunPromise}
+use Rattle.spelling.specs.declared.Printed.{Printed}
+use Rattle.spelling.specs.declared.WordRead.{WordRead}
+use Rattle.spelling.proofs.Theorems as spelling
+use Rattle.callinglamp.specs.Promises.{DecodePromise, EncodePromise, PartnerPromise, ExecutePromise, PercentPromise, RunPromise, PrintPromise, ReadPromise}
 
 pub decode-unique : (settings : Settings) (word : ℕ) (r q : Decoded) → DecodePromise settings word r → DecodePromise settings word q → r ≡ q
 decode-unique = words.decode-unique
@@ -39,3 +42,12 @@ pub run-unique : (list z za report : List ℕ) (r q : RunAnswer) (z1 za1 report1
     → RunPromise list z za report r z1 za1 report1 → RunPromise list z za report q z2 za2 report2
     → (r ≡ q) × (z1 ≡ z2) × (za1 ≡ za2) × (report1 ≡ report2)
 run-unique = runlist.run-unique
+
+-- the answer, and the room at the end
+pub print-unique : (settings : Settings) (word : ℕ) (room : List ℕ) (r q : Printed) (room1 room2 : List ℕ)
+    → PrintPromise settings word room r room1 → PrintPromise settings word room q room2
+    → (r ≡ q) × (room1 ≡ room2)
+print-unique = spelling.print-unique
+
+pub read-unique : (settings : Settings) (text : List ℕ) (r q : WordRead) → ReadPromise settings text r → ReadPromise settings text q → r ≡ q
+read-unique = spelling.read-unique

@@ -1,5 +1,5 @@
--- What the six public calls promise, side by side: what each answers, and what it leaves in what was lent to it. What a promise cites stands
--- in the crates below: layouts and fields in `words`, the step in `machine`, the list in `runlist`.
+-- What the eight public calls promise, side by side: what each answers, and what it leaves in what was lent to it. What a promise cites stands
+-- in the crates below: layouts and fields in `words`, the step in `machine`, the list in `runlist`, the texts in `spelling`.
 use Prim.Native.Nat.{ℕ}
 use mathlib.Core.Path.{_≡_}
 use mathlib.Core.List.{List}
@@ -16,6 +16,10 @@ use Rattle.machine.specs.declared.Executed.{Executed}
 use Rattle.rate.specs.Rate.{percentOf}
 use Rattle.runlist.specs.RunList as runlist
 use Rattle.runlist.specs.declared.RunAnswer.{RunAnswer}
+use Rattle.spelling.specs.Print as print
+use Rattle.spelling.specs.Language as language
+use Rattle.spelling.specs.declared.Printed.{Printed}
+use Rattle.spelling.specs.declared.WordRead.{WordRead}
 
 -- the fields of a word. "Decode tests 1, 3"
 abbrev pub DecodePromise : Settings → ℕ → Decoded → Type 0
@@ -41,3 +45,13 @@ PercentPromise toggled written r = r ≡ percentOf toggled written
 -- as it was
 abbrev pub RunPromise : List ℕ → List ℕ → List ℕ → List ℕ → RunAnswer → List ℕ → List ℕ → List ℕ → Type 0
 RunPromise = runlist.RunPromise
+
+-- "Arm's preferred assembler text for every word of the five families, in lower case with one fixed spacing": its length, and the room at the end.
+-- "printing tests 1, 3, then 12 where the room is shorter than the text"
+abbrev pub PrintPromise : Settings → ℕ → List ℕ → Printed → List ℕ → Type 0
+PrintPromise = print.PrintPromise
+
+-- "The reader takes the printed text, and also the text without `vgx2` or `vgx4` ..; nothing else." "reading tests 1, then 11 for text not of the
+-- language, then 3 for a missing feature"
+abbrev pub ReadPromise : Settings → List ℕ → WordRead → Type 0
+ReadPromise = language.ReadPromise

@@ -1,5 +1,5 @@
 // The public calls. Each answers for every input, and its promise, in specs/Promises.antt, fixes the answer and all that was lent to it.
-ghost use Rattle.callinglamp.specs.Promises.{DecodePromise, EncodePromise, PartnerPromise, ExecutePromise, PercentPromise, RunPromise};
+ghost use Rattle.callinglamp.specs.Promises.{DecodePromise, EncodePromise, PartnerPromise, ExecutePromise, PercentPromise, RunPromise, PrintPromise, ReadPromise};
 pub use encoding::Encoded;
 pub use machine::Counts;
 pub use machine::Executed;
@@ -8,6 +8,9 @@ pub use settings::Features;
 pub use settings::Modes;
 pub use settings::Refusal;
 pub use settings::Settings;
+pub use spelling::Printed;
+pub use spelling::WordRead;
+pub use spelling::longest_text;
 pub use tally::Tally;
 pub use words::Decoded;
 pub use words::Family;
@@ -54,4 +57,18 @@ pub fn run(list: &[u8], z: &mut [u8], za: &mut [u8], report: &mut [u32]) -> RunA
     ensures { λ r. ⌜ RunPromise (now (list .entry)) (now (z .entry)) (now (za .entry)) (now (report .entry)) r (now (z .exit)) (now (za .exit)) (now (report .exit)) ⌝ }
 {
     runlist::run(list, z, za, report)
+}
+
+// The preferred text of a word, at the start of the room, whose rest stays. Refusals 1, 3, 12, which leave the room as it is.
+pub fn print_word(settings: Settings, word: u32, room: &mut [u8]) -> Printed
+    ensures { λ r. ⌜ PrintPromise settings word (now (room .entry)) r (now (room .exit)) ⌝ }
+{
+    spelling::print(settings, word, room)
+}
+
+// The word of a text, with vgx or without. Refusals 1, 11, 3.
+pub fn read_word(settings: Settings, text: &[u8]) -> WordRead
+    ensures { λ r. ⌜ ReadPromise settings (now (text .entry)) r ⌝ }
+{
+    spelling::read(settings, text)
 }

@@ -11,6 +11,7 @@ use Rattle.demands.proofs.Lists as lists
 use Rattle.demands.proofs.Written as written
 use Rattle.demands.proofs.Reports.{reports-are}
 use Rattle.callinglamp.proofs.Unique as unique
+use Rattle.packing.proofs.Theorems as packing
 use Rattle.host.proofs.Unique as c
 use Rattle.host.proofs.Theorems as host
 use Rattle.demanded.specs.Demands.{Demand1, Demand2, Demand3}
@@ -40,6 +41,8 @@ demand-1 =
       percent-determined = unique.percent-unique;
       run-determined = λ list z za report x y p q.
           four-same x y (unique.run-unique list z za report (x .0) (y .0) (x .1) (x .2) (x .3) (y .1) (y .2) (y .3) p q);
+      print-determined = λ s w room x y p q. two-same x y (unique.print-unique s w room (x .0) (y .0) (x .1) (y .1) p q);
+      read-determined = unique.read-unique;
       c-decode-determined = λ settings w fields x y p q. two-same x y (c.decode-unique settings w fields (x .0) (y .0) (x .1) (y .1) p q);
       c-encode-determined = c.encode-unique;
       c-partner-determined = c.partner-unique;
@@ -48,11 +51,15 @@ demand-1 =
       c-percent-determined = c.percent-unique;
       c-run-determined = λ list z za report totals x y p q.
           five-same x y (c.run-unique list z za report totals (x .0) (y .0) (x .1) (x .2) (x .3) (x .4) (y .1) (y .2) (y .3) (y .4) p q);
+      c-print-determined = λ settings w room x y p q. two-same x y (c.print-unique settings w room (x .0) (y .0) (x .1) (y .1) p q);
+      c-read-determined = c.read-unique;
       refusal-numbers = refl;
       decode-in-order = refusals.decode-in-order;
       encode-in-order = refusals.encode-in-order;
       partner-in-order = refusals.partner-in-order;
       execute-in-order = execution.refused-in-order;
+      print-in-order = refusals.print-in-order;
+      read-in-order = refusals.read-in-order;
       list-in-order = refusals.list-in-order;
       list-refusals = lists.refused-with;
       list-place = lists.place-inside;
@@ -61,9 +68,11 @@ demand-1 =
       refused-keeps = execution.refused-keeps;
       execute-leaves = refusals.execute-leaves;
       run-leaves = refusals.run-leaves;
+      print-leaves = refusals.print-leaves;
       c-decode-keeps = host.decode-keeps;
       c-execute-keeps = host.execute-keeps;
       c-run-keeps = host.run-keeps;
+      c-print-keeps = host.print-keeps;
     }
 
 pub demand-2 : Demand2
@@ -73,8 +82,8 @@ demand-2 =
       features-and-modes = enabled-and-permitted;
       encode-after-decode = encoding.encode-after-decode;
       decode-after-encode = encoding.decode-after-encode;
-      c-fields-back = host.fields-back;
-      c-numbers-back = host.numbers-back;
+      c-fields-back = packing.fields-back;
+      c-numbers-back = packing.numbers-back;
       accepted-exactly = execution.accepted-exactly;
       in-a = execution.by-element-step;
       in-b = execution.vector-step;

@@ -2,7 +2,7 @@
 use Prim.Native.Nat.{ℕ, _+_, _*_, _<_, _≤_}
 use native.Mathlib.Omega.{arith}
 use mathlib.Core.Path.{_≡_, refl, sym, ap, _∙_}
-use mathlib.Core.Bool.{true}
+use mathlib.Core.Bool.{true, false}
 use mathlib.Core.Logic.{_≢_}
 use mathlib.Core.List.{List}
 use lib.ListN.{length, take, drop}
@@ -26,9 +26,14 @@ use Rattle.numbers.specs.declared.Read.{Read}
 use Rattle.numbers.specs.declared.Read.the-variants.{Number}
 use Rattle.runlist.specs.Plan.{Lent, lengthsOf, Found, found, refused, Asked, mostWords, zLength, settingsOf, asking, afterCount, wordsFrom, zFrom, settledFrom, planOf}
 use Rattle.runlist.specs.RunList.{Ended, carriedOut, runPaper}
+use Rattle.spelling.specs.Spell.{spell}
+use Rattle.spelling.specs.Print.{printPaper}
+use Rattle.spelling.specs.Language.{Reads, bad-settings as unset, not-text, not-enabled as disabled}
+use Rattle.spelling.proofs.Theorems.{reads-unique}
+use Rattle.spelling.proofs.Printing as printing
 use Rattle.demands.proofs.Execution as execution
 use Rattle.demands.proofs.Lists as lists
-use Rattle.demanded.specs.Refusals.{DecodeInOrder, EncodeInOrder, PartnerInOrder, LengthsRight, CountKnown, ListInOrder, ExecuteLeaves, RunLeaves}
+use Rattle.demanded.specs.Refusals.{DecodeInOrder, EncodeInOrder, PartnerInOrder, PrintInOrder, ReadInOrder, LengthsRight, CountKnown, ListInOrder, ExecuteLeaves, RunLeaves, PrintLeaves}
 
 -- ---- decode
 
@@ -64,6 +69,25 @@ partner-in-order s w =
       by-settings = partner-not-valid s w;
       by-word = λ v none. rw (decode-in-order s w .by-word v (λ f t e. none f (decodes-when s w f v .1 (t, e))));
       by-family = λ f e c. rw (e, c);
+    }
+
+-- ---- print and read
+
+pub print-in-order : (s : Settings) (w : ℕ) (room : List ℕ) → PrintInOrder s w room
+unfolding printPaper
+print-in-order s w room =
+    record {
+      by-settings = λ v. rw (decode-in-order s w .by-settings v);
+      by-word = λ v none. rw (decode-in-order s w .by-word v (λ f t e. none f (decodes-when s w f v .1 (t, e))));
+      by-room = λ f e h. rw (e, lt-leb (length (spell false f)) (length room) h);
+    }
+
+pub read-in-order : (s : Settings) (t : List ℕ) (a : ℕ × ℕ) → Reads s t a → ReadInOrder s t a
+read-in-order s t a e =
+    record {
+      by-settings = λ v. reads-unique s t a (1, 0) e (unset v);
+      by-text = λ v none. reads-unique s t a (11, 0) e (not-text v none);
+      by-feature = λ v w p n. reads-unique s t a (3, 0) e (disabled v w p n);
     }
 
 -- ---- lists
@@ -130,3 +154,7 @@ pub run-leaves : RunLeaves
 run-leaves list z za report r p z′ za′ report′ e =
     let k = lists.refused-keeps list z za report (λ n. not-0 r (ap (λ (o : Ended). o .number) e ∙ n)) in
     (ap (λ (o : Ended). o .z) e ∙ k .0, ap (λ (o : Ended). o .za) e ∙ k .1, ap (λ (o : Ended). o .report) e ∙ k .2)
+
+pub print-leaves : PrintLeaves
+print-leaves s w room r room′ e =
+    ap (λ (x : (ℕ × ℕ) × List ℕ). x .1) e ∙ printing.print-leaves s w room (λ n. not-0 r (ap (λ (x : (ℕ × ℕ) × List ℕ). x .0 .0) e ∙ n))

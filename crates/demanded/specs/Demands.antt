@@ -1,6 +1,6 @@
--- The three demands, a record each. A field is a statement that document 01 or the order makes, in its words; proofs/Demands.antt proves each
--- record, so that no statement can be dropped or lost in silence. That a call ends, for every input, is what the check says of a function
--- without a `requires`: no public call has one.
+-- The three demands, a record each. A field is a statement that document 01, a landed request or the order makes, in its words; proofs/Demands.antt
+-- proves each record, so that no statement can be dropped or lost in silence. That a call ends, for every input, is what the check says of a
+-- function without a `requires`: no public call has one.
 use Prim.Native.Nat.{ℕ, _^_, _<_}
 use mathlib.Core.Path.{_≡_}
 use mathlib.Core.Logic.{_↔_}
@@ -18,6 +18,9 @@ use Rattle.encoding.specs.Encode.{Encodes}
 use Rattle.encoding.specs.declared.Encoded.{Encoded}
 use Rattle.machine.specs.declared.Executed.{Executed}
 use Rattle.runlist.specs.declared.RunAnswer.{RunAnswer}
+use Rattle.spelling.specs.Language.{Reads}
+use Rattle.spelling.specs.declared.Printed.{Printed}
+use Rattle.spelling.specs.declared.WordRead.{WordRead}
 use Rattle.demands.specs.Execution.{LengthIsVL, AcceptedExactly, AlwaysInOrder, Always, KeepsIfRefused, SameLengths, StillBytes, CountsToggled, AtMostWritten, FewWritten}
 use Rattle.demands.specs.Execution.{Whenever, ElementsA, ElementsB, ElementsC, ElementsZa, WrittenIs, ZElsewhere, ElsewhereZa, WheneverZa, First, Distinct, Exact}
 use Rattle.demands.specs.Sweep.{SweepCloses, UndoAccepts, PartnersAccepted}
@@ -26,10 +29,11 @@ use Rattle.demands.specs.Calls.{CallersSee}
 use Rattle.demands.specs.Permitted.{EnabledAndPermitted}
 use Rattle.demands.specs.Lists.{RefusedWith, PlaceInside, WrittenIsRead, OneList}
 use Rattle.demands.specs.Reports.{ReportsAre}
-use Rattle.callinglamp.specs.Promises.{DecodePromise, EncodePromise, PartnerPromise, ExecutePromise, PercentPromise, RunPromise}
-use Rattle.host.specs.Host.{HostDecode, HostEncode, HostPartner, HostExecute, HostPercent, HostRun}
+use Rattle.callinglamp.specs.Promises.{DecodePromise, EncodePromise, PartnerPromise, ExecutePromise, PercentPromise, RunPromise, PrintPromise, ReadPromise}
+use Rattle.packing.specs.Theorems as packing
+use Rattle.host.specs.Host.{HostDecode, HostEncode, HostPartner, HostExecute, HostPercent, HostRun, HostPrint, HostRead}
 use Rattle.host.specs.Theorems as host
-use Rattle.demanded.specs.Refusals.{RefusalNumbers, DecodeInOrder, EncodeInOrder, PartnerInOrder, ListInOrder, ExecuteLeaves, RunLeaves}
+use Rattle.demanded.specs.Refusals.{RefusalNumbers, DecodeInOrder, EncodeInOrder, PartnerInOrder, PrintInOrder, ReadInOrder, ListInOrder, ExecuteLeaves, RunLeaves, PrintLeaves}
 
 -- "any two results allowed by it are equal": an answer, with all that was lent as the call left it
 abbrev pub OnlyOne : {A : Type 0} → (A → Type 0) → Type 0
@@ -49,6 +53,9 @@ pub record Demand1 : Type 0 where
   -- the answer, Z, ZA and the report
   pub run-determined : (list z za report : List ℕ)
       → OnlyOne {A = RunAnswer × List ℕ × List ℕ × List ℕ} (λ a. RunPromise list z za report (a .0) (a .1) (a .2) (a .3))
+  -- the answer and the room
+  pub print-determined : (s : Settings) (w : ℕ) (room : List ℕ) → OnlyOne {A = Printed × List ℕ} (λ a. PrintPromise s w room (a .0) (a .1))
+  pub read-determined : (s : Settings) (text : List ℕ) → OnlyOne {A = WordRead} (ReadPromise s text)
   -- the same of the calls for C: the answer, and each array that is lent to be written
   pub c-decode-determined : (settings : List ℕ) (w : ℕ) (fields : List ℕ)
       → OnlyOne {A = ℕ × List ℕ} (λ a. HostDecode settings w fields (a .0) (a .1))
@@ -59,6 +66,8 @@ pub record Demand1 : Type 0 where
   pub c-percent-determined : (toggled written : ℕ) → OnlyOne {A = ℕ} (HostPercent toggled written)
   pub c-run-determined : (list z za report totals : List ℕ)
       → OnlyOne {A = ℕ × List ℕ × List ℕ × List ℕ × List ℕ} (λ a. HostRun list z za report totals (a .0) (a .1) (a .2) (a .3) (a .4))
+  pub c-print-determined : (settings : List ℕ) (w : ℕ) (room : List ℕ) → OnlyOne {A = ℕ × List ℕ} (λ a. HostPrint settings w room (a .0) (a .1))
+  pub c-read-determined : (settings text : List ℕ) → OnlyOne {A = ℕ} (HostRead settings text)
   -- "bad input gets the refusal number that the paper fixes"
   pub refusal-numbers : RefusalNumbers
   -- "Refusal numbers, tested in this order". "Decode tests 1, 3"
@@ -69,6 +78,10 @@ pub record Demand1 : Type 0 where
   pub partner-in-order : (s : Settings) (w : ℕ) → PartnerInOrder s w
   -- "execute 1, 2, 3, 4"
   pub execute-in-order : AlwaysInOrder
+  -- "printing tests 1, 3, then 12 where the room is shorter than the text"
+  pub print-in-order : (s : Settings) (w : ℕ) (room : List ℕ) → PrintInOrder s w room
+  -- "reading tests 1, then 11 for text not of the language, then 3 for a missing feature"
+  pub read-in-order : (s : Settings) (text : List ℕ) (answer : ℕ × ℕ) → Reads s text answer → ReadInOrder s text answer
   -- the run list: "found while reading left to right, the first fault deciding"
   pub list-in-order : (list z za report : List ℕ) → ListInOrder list z za report
   -- no other refusal is given to a list, and its place is in the list or at its end: "0 with every other refusal" than 7 to 10
@@ -81,9 +94,11 @@ pub record Demand1 : Type 0 where
   pub refused-keeps : Always KeepsIfRefused
   pub execute-leaves : ExecuteLeaves
   pub run-leaves : RunLeaves
+  pub print-leaves : PrintLeaves
   pub c-decode-keeps : host.DecodeKeeps
   pub c-execute-keeps : host.ExecuteKeeps
   pub c-run-keeps : host.RunKeeps
+  pub c-print-keeps : host.PrintKeeps
 
 -- "Under valid settings a word decodes exactly when a listed layout matches, its size is not reserved and the features enable it; encoding inverts
 -- decoding; each execution gives the registers of Arm's operation text as 01 states it, changes nothing else, and reports exactly the bits that differ
@@ -98,8 +113,8 @@ pub record Demand2 : Type 0 where
   pub encode-after-decode : (s : Settings) (w : ℕ) (f : Fields) (answer : ℕ × ℕ) → w < 2 ^ 32 → decodePaper s w ≡ (0, f) → Encodes s f answer → answer ≡ (0, w)
   pub decode-after-encode : (s : Settings) (w : ℕ) (f : Fields) → Encodes s f (0, w) → decodePaper s w ≡ (0, f)
   -- in C, too: the twelve numbers of fields stand for these fields, and no other twelve do
-  pub c-fields-back : host.FieldsBack
-  pub c-numbers-back : host.NumbersBack
+  pub c-fields-back : packing.FieldsBack
+  pub c-numbers-back : packing.NumbersBack
   -- a word is executed exactly where no refusal is due
   pub accepted-exactly : AcceptedExactly
   -- "each execution gives the registers of Arm's operation text as 01 states it". A: "the 64-bit half Q of the first source gives 64/lane elements",

@@ -1,5 +1,6 @@
--- Document 01, "Refusal numbers, tested in this order": of each public call, which refusal is given where no earlier one is due, and what a refused
--- call leaves. Of `execute` the order is `RefusedInOrder` (demands/specs/Execution.antt). Statements only: proofs/Refusals.antt proves each.
+-- Document 01, "Refusal numbers, tested in this order", and those of request One: of each public call, which refusal is given where no earlier one
+-- is due, and what a refused call leaves. Of `execute` the order is `RefusedInOrder` (demands/specs/Execution.antt). Statements only:
+-- proofs/Refusals.antt proves each.
 use Prim.Native.Nat.{ℕ, _+_, _*_, _<_, _≤_}
 use mathlib.Core.Path.{_≡_}
 use mathlib.Core.Logic.{_≢_}
@@ -9,7 +10,7 @@ use lib.ListN.{length}
 use Rattle.settings.specs.Valid.{validSettings}
 use Rattle.settings.specs.Refused.{refusalNumber}
 use Rattle.settings.specs.declared.Refusal.{Refusal}
-use Rattle.settings.specs.declared.Refusal.the-variants.{BadSettings, BadLength, UnknownWord, WrongMode, NoSuchWord, NoPartner, ListEnds, BadNumber, TooManyWords, ExtraBytes}
+use Rattle.settings.specs.declared.Refusal.the-variants.{BadSettings, BadLength, UnknownWord, WrongMode, NoSuchWord, NoPartner, ListEnds, BadNumber, TooManyWords, ExtraBytes, NotText, ShortRoom}
 use Rattle.settings.specs.declared.Settings.{Settings}
 use Rattle.words.specs.Says.{table, SaidBy}
 use Rattle.words.specs.Decode.{enables, noFields, decodePaper}
@@ -24,13 +25,17 @@ use Rattle.machine.specs.declared.Executed.the-variants as executed
 use Rattle.runlist.specs.Plan.{mostWords, zLength, settingsOf}
 use Rattle.runlist.specs.RunList.{refusedAt, runPaper, RunPromise}
 use Rattle.runlist.specs.declared.RunAnswer.the-variants as answer
+use Rattle.spelling.specs.Spell.{spell}
+use Rattle.spelling.specs.Print.{printPaper, PrintPromise}
+use Rattle.spelling.specs.Language.{Spells}
+use Rattle.spelling.specs.declared.Printed.the-variants as printed
 
--- the numbers, in the order of the table and of "Further numbers"
+-- the numbers, in the order of the table and of "Further numbers"; then those of request One
 abbrev pub RefusalNumbers : Type 0
 RefusalNumbers =
     map refusalNumber
-    (BadSettings ∷ BadLength ∷ UnknownWord ∷ WrongMode ∷ NoSuchWord ∷ NoPartner ∷ ListEnds ∷ BadNumber ∷ TooManyWords ∷ ExtraBytes ∷ [])
-    ≡ 1 ∷ 2 ∷ 3 ∷ 4 ∷ 5 ∷ 6 ∷ 7 ∷ 8 ∷ 9 ∷ 10 ∷ []
+    (BadSettings ∷ BadLength ∷ UnknownWord ∷ WrongMode ∷ NoSuchWord ∷ NoPartner ∷ ListEnds ∷ BadNumber ∷ TooManyWords ∷ ExtraBytes ∷ NotText ∷ ShortRoom ∷ [])
+    ≡ 1 ∷ 2 ∷ 3 ∷ 4 ∷ 5 ∷ 6 ∷ 7 ∷ 8 ∷ 9 ∷ 10 ∷ 11 ∷ 12 ∷ []
 
 -- ---- "Decode tests 1, 3; encode 1, 5, 3; partner 1, 3, 6"
 
@@ -50,6 +55,20 @@ pub record PartnerInOrder (s : Settings) (w : ℕ) : Type 0 where
   pub by-settings : validSettings s ≡ false → partnerPaper s w ≡ (1, 0)
   pub by-word : validSettings s ≡ true → ((f : Fields) → decodePaper s w ≢ (0, f)) → partnerPaper s w ≡ (3, 0)
   pub by-family : (f : Fields) → decodePaper s w ≡ (0, f) → f .family ≡ Saturating → partnerPaper s w ≡ (6, 0)
+
+-- ---- request One: "printing tests 1, 3, then 12 ..; reading tests 1, then 11 .., then 3 .."
+
+-- 12 "where the room is shorter than the text"
+pub record PrintInOrder (s : Settings) (w : ℕ) (room : List ℕ) : Type 0 where
+  pub by-settings : validSettings s ≡ false → printPaper s w room ≡ ((1, 0), room)
+  pub by-word : validSettings s ≡ true → ((f : Fields) → decodePaper s w ≢ (0, f)) → printPaper s w room ≡ ((3, 0), room)
+  pub by-room : (f : Fields) → decodePaper s w ≡ (0, f) → length room < length (spell false f) → printPaper s w room ≡ ((12, 0), room)
+
+-- 11 "for text not of the language, then 3 for a missing feature"
+pub record ReadInOrder (s : Settings) (t : List ℕ) (answer : ℕ × ℕ) : Type 0 where
+  pub by-settings : validSettings s ≡ false → answer ≡ (1, 0)
+  pub by-text : validSettings s ≡ true → ((w : ℕ) → Spells t w → ⊥) → answer ≡ (11, 0)
+  pub by-feature : validSettings s ≡ true → (w : ℕ) (p : Spells t w) → enables (s .features .0) (p .fields) ≡ false → answer ≡ (3, 0)
 
 -- ---- the run list: "found while reading left to right, the first fault deciding"
 
@@ -107,3 +126,7 @@ abbrev pub RunLeaves : Type 0
 RunLeaves =
     (list z za report : List ℕ) (r : Refusal) (p : ℕ) (z′ za′ report′ : List ℕ) → RunPromise list z za report (answer.Refused r p) z′ za′ report′
     → (z′ ≡ z) × (za′ ≡ za) × (report′ ≡ report)
+
+-- and `print`
+abbrev pub PrintLeaves : Type 0
+PrintLeaves = (s : Settings) (w : ℕ) (room : List ℕ) (r : Refusal) (room′ : List ℕ) → PrintPromise s w room (printed.Refused r) room′ → room′ ≡ room

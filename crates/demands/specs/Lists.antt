@@ -9,7 +9,7 @@ use lib.ListN.{length, take}
 use Rattle.laws.specs.Lists.{Each}
 use Rattle.settings.specs.Valid.{validSettings}
 use Rattle.settings.specs.declared.Refusal.{Refusal}
-use Rattle.settings.specs.declared.Refusal.the-variants.{BadSettings, BadLength, UnknownWord, WrongMode, NoSuchWord, NoPartner, ListEnds, BadNumber, TooManyWords, ExtraBytes}
+use Rattle.settings.specs.declared.Refusal.the-variants.{BadSettings, BadLength, UnknownWord, WrongMode, NoSuchWord, NoPartner, ListEnds, BadNumber, TooManyWords, ExtraBytes, NotText, ShortRoom}
 use Rattle.settings.specs.declared.Settings.{Settings}
 use Rattle.numbers.specs.Numbers.{put, puts}
 use Rattle.machine.specs.Execute.{rightLengths}
@@ -120,6 +120,8 @@ OfList ListEnds p = Unit {0}
 OfList BadNumber p = Unit {0}
 OfList TooManyWords p = Unit {0}
 OfList ExtraBytes p = Unit {0}
+OfList NotText p = ⊥
+OfList ShortRoom p = ⊥
 
 -- no other is given to a list: "0 with every other refusal" than 7 to 10
 abbrev pub RefusedWith : Type 0

@@ -1,5 +1,5 @@
 -- From what a public call promises, and what is put down of its answer, to what the C function promises. Assumes nothing.
-use Prim.Native.Nat.{ℕ}
+use Prim.Native.Nat.{ℕ, _<_, _^_}
 use native.Mathlib.Omega.{arith}
 use mathlib.Core.Path.{_≡_, ap, _∙_}
 use mathlib.Core.List.{List}
@@ -17,10 +17,16 @@ use Rattle.runlist.specs.Plan.{settingsOf}
 use Rattle.runlist.specs.RunList.{Ended}
 use Rattle.runlist.specs.declared.RunAnswer.{RunAnswer}
 use Rattle.runlist.specs.declared.RunAnswer.the-variants as answer
+use Rattle.spelling.specs.Print.{printedSays}
+use Rattle.spelling.specs.Language.{readSays}
+use Rattle.spelling.specs.declared.Printed.{Printed}
+use Rattle.spelling.specs.declared.WordRead.{WordRead}
+use Rattle.spelling.proofs.Printing.{print-short}
 use Rattle.demands.proofs.Lists.{run-small}
-use Rattle.callinglamp.specs.Promises.{DecodePromise, EncodePromise, PartnerPromise, ExecutePromise, RunPromise}
-use Rattle.host.specs.Host.{halves, fieldsFrom, decodedInto, hostDecode, HostDecode, EncodesNumbers, HostEncode, HostPartner, executedInto, hostExecute, HostExecute, ranInto, hostRun, HostRun, ExecutedPut, RanPut, FitsHalf}
-use Rattle.host.specs.declared.GivenFields.the-variants.{Are, Nothing}
+use Rattle.callinglamp.specs.Promises.{DecodePromise, EncodePromise, PartnerPromise, ExecutePromise, RunPromise, PrintPromise, ReadPromise}
+use Rattle.packing.specs.Packing.{halves, fieldsFrom, decodedInto, executedInto, ranInto, ExecutedPut, RanPut, FitsHalf, TextFits}
+use Rattle.packing.specs.declared.GivenFields.the-variants.{Are, Nothing}
+use Rattle.host.specs.Host.{hostDecode, HostDecode, EncodesNumbers, HostEncode, HostPartner, hostExecute, HostExecute, hostRun, HostRun, HostPrint, HostRead}
 
 module _ (settings : List ℕ) (s : Settings) (e : s ≡ settingsOf settings) where
   pub decode-said : (word : ℕ) (fields fields′ : List ℕ) (a : Decoded) (r : ℕ) → DecodePromise s word a
@@ -45,6 +51,13 @@ module _ (settings : List ℕ) (s : Settings) (e : s ≡ settingsOf settings) wh
   execute-said word z za counts a r z′ za′ counts′ p h =
       rw (← e) (h z′ za′ ∙ ap (λ (o : Outcome). executedInto o counts) p)
 
+  pub print-said : (word : ℕ) (room : List ℕ) (a : Printed) (r : ℕ) (room′ : List ℕ) → PrintPromise s word room a room′ → halves r ≡ printedSays a
+      → HostPrint settings word room r room′
+  print-said word room a r room′ p h = rw (← e, h) p
+
+  pub read-said : (text : List ℕ) (a : WordRead) (r : ℕ) → ReadPromise s text a → halves r ≡ readSays a → HostRead settings text r
+  read-said text a r p h = rw (← e, h) p
+
 module _ (list z za report : List ℕ) where
   pub run-said : (totals : List ℕ) (a : RunAnswer) (r : ℕ) (z′ za′ report′ totals′ : List ℕ) → RunPromise list z za report a z′ za′ report′
       → RanPut a totals r totals′ → HostRun list z za report totals r z′ za′ report′ totals′
@@ -57,3 +70,7 @@ module _ (list z za report : List ℕ) where
       omega (arith, ap (λ (o : Ended). o .words) p, run-small list z za report .1)
   run-fits (answer.Refused x q) z′ za′ report′ p =
       omega (arith, ap (λ (o : Ended). o .place) p, run-small list z za report .0)
+
+-- the length of a text has 32 bits
+pub print-fits : (s : Settings) (word : ℕ) (room : List ℕ) (a : Printed) (room′ : List ℕ) → word < 2 ^ 32 → PrintPromise s word room a room′ → TextFits a
+print-fits s word room a room′ fits p = omega (arith, ap (λ (x : (ℕ × ℕ) × List ℕ). x .0 .1) p, print-short s word room fits)

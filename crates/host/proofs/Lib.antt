@@ -1,4 +1,3 @@
-pub mod Put
 pub mod Calls
 pub mod Theorems
 pub mod Unique

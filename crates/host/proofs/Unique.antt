@@ -6,10 +6,12 @@ use mathlib.Core.List.{List}
 use Rattle.settings.specs.declared.Settings.{Settings}
 use Rattle.encoding.proofs.Theorems.{encodes-unique}
 use Rattle.runlist.specs.Plan.{settingsOf}
-use Rattle.host.specs.Host.{ofHalves, halves, fieldsFrom, HostDecode, EncodesNumbers, HostEncode, HostPartner, HostExecuted, HostExecute, HostPercent, HostRan, HostRun}
-use Rattle.host.specs.declared.GivenFields.{GivenFields}
-use Rattle.host.specs.declared.GivenFields.the-variants.{Are, Nothing}
-use Rattle.host.proofs.Theorems.{answer-back}
+use Rattle.spelling.proofs.Theorems.{reads-unique}
+use Rattle.packing.specs.Packing.{ofHalves, halves, fieldsFrom, HostExecuted, HostRan}
+use Rattle.packing.specs.declared.GivenFields.{GivenFields}
+use Rattle.packing.specs.declared.GivenFields.the-variants.{Are, Nothing}
+use Rattle.packing.proofs.Theorems.{answer-back}
+use Rattle.host.specs.Host.{HostDecode, EncodesNumbers, HostEncode, HostPartner, HostExecute, HostPercent, HostRun, HostPrint, HostRead}
 
 -- an answer is known by its halves
 halves-known : (r q : ℕ) → halves r ≡ halves q → r ≡ q
@@ -57,3 +59,13 @@ run-unique list z za report totals r q z1 za1 report1 totals1 z2 za2 report2 tot
       ap (λ (x : HostRan). x .report) same,
       ap (λ (x : HostRan). x .totals) same,
     )
+
+pub print-unique : (settings : List ℕ) (word : ℕ) (room : List ℕ) (r q : ℕ) (room1 room2 : List ℕ)
+    → HostPrint settings word room r room1 → HostPrint settings word room q room2
+    → (r ≡ q) × (room1 ≡ room2)
+print-unique settings word room r q room1 room2 e g =
+    let same = e ∙ sym g in
+    (halves-known r q (ap (λ (x : (ℕ × ℕ) × List ℕ). x .0) same), ap (λ (x : (ℕ × ℕ) × List ℕ). x .1) same)
+
+pub read-unique : (settings text : List ℕ) (r q : ℕ) → HostRead settings text r → HostRead settings text q → r ≡ q
+read-unique settings text r q e g = halves-known r q (reads-unique (settingsOf settings) text (halves r) (halves q) e g)

@@ -1,16 +1,26 @@
--- The definitions run: document 01's rows P5, P8 and P11 as a C program sees them, and each kind of answer.
+-- The definitions run: document 01's rows P5, P8 and P11 and request One's word as a C program sees them, and each kind of answer.
 use Prim.Native.Nat.{ℕ}
+use native.Mathlib.Omega.{arith}
 use mathlib.Core.Path.{_≡_, refl}
-use mathlib.Core.List.{List, [], _∷_}
+use mathlib.Core.Bool.{true}
+use mathlib.Core.List.{List, [], _∷_, _++_}
 use lib.ListN.{replicate}
 use Rattle.settings.specs.Valid.{validSettings}
 use Rattle.words.specs.Says.{describe}
+use Rattle.words.specs.Kinds.{fieldsSaid}
 use Rattle.words.specs.Decode.{enables, decodeEnabled, decodePaper}
 use Rattle.words.specs.Partner.{partnerWord, partnerPaper}
 use Rattle.numbers.specs.Numbers.{numeral, numberAt, numbersAt}
 use Rattle.runlist.specs.Plan.{settingsOf, planOf}
 use Rattle.runlist.specs.RunList.{runPaper}
-use Rattle.host.specs.Host.{ofHalves, halves, fieldsFrom, hostDecode, HostEncode, HostPartner, hostRun}
+use Rattle.pieces.specs.Pieces.{text, decimal, decimalUpTo}
+use Rattle.syntax.specs.Syntax.{fill}
+use Rattle.spelling.specs.Rows.{syntaxAt}
+use Rattle.spelling.specs.Spell.{rowFor, letterValues, spell}
+use Rattle.spelling.specs.Print.{printPaper}
+use Rattle.spelling.specs.Language.{a-word}
+use Rattle.packing.specs.Packing.{ofHalves, halves, fieldsFrom}
+use Rattle.host.specs.Host.{hostDecode, HostEncode, HostPartner, hostRun, HostPrint, HostRead}
 
 -- VL 128, modes 0 and W8 to W11 0
 abbrev settings : ℕ → List ℕ
@@ -73,3 +83,16 @@ empty-list : hostRun [] (1 ∷ 2 ∷ []) (3 ∷ []) (4 ∷ []) (5 ∷ 6 ∷ 7 �
     ≡ record { answer = (7, 0); z = 1 ∷ 2 ∷ []; za = 3 ∷ []; report = 4 ∷ []; totals = 5 ∷ 6 ∷ 7 ∷ [] }
 unfolding hostRun runPaper planOf numbersAt numberAt numeral
 empty-list = refl
+
+-- C1A20008 has a text of 56 bytes: the room past it stays, and a shorter room is refused after the word
+printed : HostPrint (settings 12) 0xC1A20008 (replicate 58 7) (ofHalves 0 56) (text "smlsll za.s[w8, 0:3, vgx2], { z0.b-z1.b }, { z2.b-z3.b }" ++ replicate 2 7)
+    × HostPrint (settings 12) 0xC1A20008 (replicate 55 7) (ofHalves 12 0) (replicate 55 7) × HostPrint (settings 3) 0xC1A20008 [] (ofHalves 3 0) []
+unfolding settingsOf printPaper decodePaper decodeEnabled describe enables validSettings spell rowFor letterValues syntaxAt fill decimal decimalUpTo
+printed = (refl, refl, refl)
+
+-- and its text without vgx is read
+was-read : HostRead (settings 12) (text "smlsll za.s[w8, 0:3], { z0.b-z1.b }, { z2.b-z3.b }") (ofHalves 0 0xC1A20008)
+unfolding settingsOf describe enables validSettings spell rowFor letterValues syntaxAt fill decimal decimalUpTo
+was-read =
+    a-word refl 0xC1A20008
+    (record { fits = omega arith; fields = fieldsSaid (describe 0xC1A20008); says = refl; short = true; spelled = refl }) refl

@@ -1,26 +1,10 @@
--- What holds of the numbers of the C interface. Statements only: proofs/Put.antt proves the first and proofs/Theorems.antt each other.
-use Prim.Native.Nat.{ℕ, _^_, _<_}
+-- What holds of the C interface. Statements only: proofs/Theorems.antt proves each.
+use Prim.Native.Nat.{ℕ}
 use mathlib.Core.Path.{_≡_}
 use mathlib.Core.Logic.{_≢_}
 use mathlib.Core.List.{List}
-use lib.ListN.{length}
-use Rattle.words.specs.declared.Fields.{Fields}
-use Rattle.host.specs.Host.{ofHalves, halves, fieldNumbers, fieldsFrom, HostDecode, HostExecute, HostRun}
-use Rattle.host.specs.declared.GivenFields.the-variants.{Are}
-
--- what is put into an answer is read from it, and nothing else is in it
-abbrev pub HalvesBack : Type 0
-HalvesBack = (refusal value : ℕ) → refusal < 2 ^ 32 → halves (ofHalves refusal value) ≡ (refusal, value)
-
-abbrev pub AnswerBack : Type 0
-AnswerBack = (answer : ℕ) → ofHalves (halves answer .0) (halves answer .1) ≡ answer
-
--- the numbers of fields stand for these fields, and twelve numbers that stand for fields are theirs
-abbrev pub FieldsBack : Type 0
-FieldsBack = (f : Fields) → fieldsFrom (fieldNumbers f) ≡ Are f
-
-abbrev pub NumbersBack : Type 0
-NumbersBack = (numbers : List ℕ) (f : Fields) → length numbers ≡ 12 → fieldsFrom numbers ≡ Are f → fieldNumbers f ≡ numbers
+use Rattle.packing.specs.Packing.{halves}
+use Rattle.host.specs.Host.{HostDecode, HostExecute, HostRun, HostPrint}
 
 -- "every lent buffer keeps its contents": a call that was refused has written nothing
 abbrev pub DecodeKeeps : Type 0
@@ -37,3 +21,8 @@ abbrev pub RunKeeps : Type 0
 RunKeeps =
     (list z za report totals : List ℕ) (r : ℕ) (z′ za′ report′ totals′ : List ℕ) → HostRun list z za report totals r z′ za′ report′ totals′
     → halves r .0 ≢ 0 → (z′ ≡ z) × (za′ ≡ za) × (report′ ≡ report) × (totals′ ≡ totals)
+
+abbrev pub PrintKeeps : Type 0
+PrintKeeps =
+    (settings : List ℕ) (word : ℕ) (room : List ℕ) (r : ℕ) (room′ : List ℕ) → HostPrint settings word room r room′
+    → halves r .0 ≢ 0 → room′ ≡ room

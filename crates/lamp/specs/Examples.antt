@@ -15,7 +15,8 @@ use Rattle.machine.specs.Execute.{stepped, executePaper}
 use Rattle.machine.specs.Run.{runOf}
 use Rattle.runlist.specs.Plan.{wordsFrom, zFrom, settledFrom, settingsOf, planOf}
 use Rattle.runlist.specs.RunList.{tallied, threes, runPaper}
-use Rattle.lines.specs.Lines.{text, digits, decimalUpTo, decimal, hex8, refusedLine, countsAfter, outcome, wordLine, wordLines, wordsLine, totalLine, ranLines}
+use Rattle.pieces.specs.Pieces.{text, digits, decimalUpTo, decimal, hex8}
+use Rattle.lines.specs.Lines.{refusedLine, countsAfter, outcome, wordLine, wordLines, wordsLine, totalLine, ranLines}
 use Rattle.demands.specs.ListExamples.{paperList}
 use Rattle.lamp.specs.Lamp.{wordsOf, textOf, linesOf, registerBytes, printed}
 

@@ -2,7 +2,7 @@
 ghost use mathlib.Core.Path.{_≡_};
 ghost use Prim.Native.Nat.{_+_, _*_, _≤_, _<_};
 ghost use lib.ListN.{length, take};
-ghost use Rattle.lines.specs.Lines.{Wrote};
+ghost use Rattle.pieces.specs.Pieces.{Wrote};
 ghost use Rattle.runlist.specs.Plan.{mostWords};
 ghost use Rattle.demands.specs.Lists.{longest};
 ghost use Rattle.lamp.specs.Lamp.{linesOf, registerOf, registerBytes, printed, WordsAgain};

@@ -7,8 +7,9 @@ use mathlib.Core.List.{List, _++_, append-assoc}
 use lib.ListN.{length}
 use Rattle.rate.specs.Rate.{percentOf}
 use Rattle.laws.proofs.Tests.{cond-eq, cond-ne}
-use Rattle.lines.specs.Lines.{text, decimal, countsAfter, outcome, lineOf, wordLines, Wrote}
-use Rattle.lines.proofs.Pieces.{nothing, and-then, said}
+use Rattle.pieces.specs.Pieces.{text, decimal, Wrote}
+use Rattle.lines.specs.Lines.{countsAfter, outcome, lineOf, wordLines}
+use Rattle.pieces.proofs.Pieces.{nothing, and-then, said}
 
 -- a text and a number after a piece
 and-number : {t : List ℕ} (b d : List ℕ) {at r q : ℕ} {out₀ out₁ out₂ : List ℕ} → Wrote t at out₀ out₁ r → Wrote (b ++ d) r out₁ out₂ q

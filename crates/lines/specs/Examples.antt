@@ -1,7 +1,8 @@
 -- Document 01's lines, and those of no words.
 use mathlib.Core.Path.{_≡_, refl}
 use mathlib.Core.List.{[], _∷_, _++_}
-use Rattle.lines.specs.Lines.{text, digits, decimalUpTo, decimal, hex8, refusedLine, countsAfter, outcome, wordLine, wordLines, wordsLine, totalLine, ranLines}
+use Rattle.pieces.specs.Pieces.{text, digits, decimalUpTo, decimal, hex8}
+use Rattle.lines.specs.Lines.{refusedLine, countsAfter, outcome, wordLine, wordLines, wordsLine, totalLine, ranLines}
 
 refused-at-once : refusedLine 7 0 ≡ text "refused 7 at 0\n"
 unfolding refusedLine decimal decimalUpTo
@@ -16,8 +17,3 @@ three-words = refl
 no-words : ranLines [] [] 0 0 ≡ text "words 0\n" ++ text "total 0 0 0\n"
 unfolding ranLines wordsLine totalLine wordLines wordLine outcome countsAfter hex8 decimal decimalUpTo digits
 no-words = refl
-
--- the greatest number of 64 bits
-long-number : decimal 18446744073709551615 ≡ text "18446744073709551615"
-unfolding decimal decimalUpTo
-long-number = refl

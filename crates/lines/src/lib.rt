@@ -1,84 +1,10 @@
-// The lines that the list program prints, written into room that the caller lends. Each piece is put at a place and
-// answers the place after it. A number of 64 bits has at most 20 decimal digits.
+// The lines that the list program prints, written into room that the caller lends.
 ghost use mathlib.Core.Path.{_≡_};
 ghost use mathlib.Core.List.{_++_};
 ghost use Prim.Native.Nat.{_+_, _*_, _≤_, _<_};
 ghost use lib.ListN.{length, take};
-ghost use Rattle.lines.specs.Lines.{
-  text,
-  glyphOf,
-  digits,
-  decimal,
-  hex8,
-  refusedLine,
-  countsAfter,
-  outcome,
-  lineOf,
-  wordLines,
-  ranLines,
-  Wrote,
-};
-
-// The byte of a digit.
-fn glyph(digit: u64) -> u8
-    requires { ⌜ digit < 16 ⌝ }
-    ensures { λ r. ⌜ r ≡ glyphOf digit ⌝ }
-{
-    if digit < 10 {
-        48 + digit as u8
-    } else {
-        55 + digit as u8
-    }
-}
-
-fn put_text(out: &mut [u8], at: usize, piece: &[u8]) -> usize
-    requires { ⌜ at + length (now piece) ≤ length (now out) ⌝ }
-    ensures { λ r. ⌜ Wrote (now (piece .entry)) at (now (out .entry)) (now (out .exit)) r ⌝ }
-{
-    let mut i = 0;
-    while i < piece.len() {
-        out[at + i] = piece[i];
-        i += 1;
-    }
-    at + i
-}
-
-// The last digits of a number in a base, `count` of them, from the right to the left.
-fn put_digits(out: &mut [u8], at: usize, n: u64, base: u64, count: usize) -> usize
-    requires { ⌜ (1 < base) × (base ≤ 16) × (at + count ≤ length (now out)) ⌝ }
-    ensures { λ r. ⌜ Wrote (digits base count n) at (now (out .entry)) (now (out .exit)) r ⌝ }
-    ensures { λ r. ⌜ r ≤ at + count ⌝ }
-{
-    let mut left = count;
-    let mut rest = n;
-    while left > 0 {
-        left -= 1;
-        out[at + left] = glyph(rest % base);
-        rest /= base;
-    }
-    at + count
-}
-
-// How many decimal digits a number has.
-fn places(n: u64) -> usize
-    ensures { λ r. ⌜ (r ≡ length (decimal n)) × (r ≤ 20) ⌝ }
-{
-    let mut count = 1;
-    let mut rest = n;
-    while rest >= 10 {
-        rest /= 10;
-        count += 1;
-    }
-    count
-}
-
-fn put_decimal(out: &mut [u8], at: usize, n: u64) -> usize
-    requires { ⌜ at + 20 ≤ length (now out) ⌝ }
-    ensures { λ r. ⌜ Wrote (decimal n) at (now (out .entry)) (now (out .exit)) r ⌝ }
-    ensures { λ r. ⌜ r ≤ at + 20 ⌝ }
-{
-    put_digits(out, at, n, 10, places(n))
-}
+ghost use Rattle.pieces.specs.Pieces.{text, decimal, hex8, Wrote};
+ghost use Rattle.lines.specs.Lines.{refusedLine, countsAfter, outcome, lineOf, wordLines, ranLines};
 
 // A number after a text.
 fn put_number(out: &mut [u8], at: usize, before: &[u8], n: u64) -> usize
@@ -86,8 +12,8 @@ fn put_number(out: &mut [u8], at: usize, before: &[u8], n: u64) -> usize
     ensures { λ r. ⌜ Wrote (now (before .entry) ++ decimal n) at (now (out .entry)) (now (out .exit)) r ⌝ }
     ensures { λ r. ⌜ r ≤ at + length (now (before .entry)) + 20 ⌝ }
 {
-    let number = put_text(out, at, before);
-    put_decimal(out, number, n)
+    let number = pieces::put_text(out, at, before);
+    pieces::put_decimal(out, number, n)
 }
 
 // A number after a text, and the line's end.
@@ -97,7 +23,7 @@ fn put_last(out: &mut [u8], at: usize, before: &[u8], n: u64) -> usize
     ensures { λ r. ⌜ r ≤ at + length (now (before .entry)) + 21 ⌝ }
 {
     let end = put_number(out, at, before, n);
-    put_text(out, end, b"\n")
+    pieces::put_text(out, end, b"\n")
 }
 
 // Toggled, written and percent after a text, and the line's end.
@@ -118,9 +44,9 @@ fn put_word(out: &mut [u8], at: usize, number: usize, word: u32) -> usize
     ensures { λ r. ⌜ Wrote (decimal number ++ text " " ++ hex8 word) at (now (out .entry)) (now (out .exit)) r ⌝ }
     ensures { λ r. ⌜ r ≤ at + 29 ⌝ }
 {
-    let space = put_decimal(out, at, number as u64);
-    let hex = put_text(out, space, b" ");
-    put_digits(out, hex, word as u64, 16, 8)
+    let space = pieces::put_decimal(out, at, number as u64);
+    let hex = pieces::put_text(out, space, b" ");
+    pieces::put_digits(out, hex, word as u64, 16, 8)
 }
 
 // What became of a word, to the line's end.

@@ -8,7 +8,7 @@ use lib.Dec.{eqb}
 use borrow.Author.Tests.{ne-eqb}
 use Rattle.settings.specs.Refused.{refusalNumber}
 use Rattle.settings.specs.declared.Refusal.{Refusal}
-use Rattle.settings.specs.declared.Refusal.the-variants.{BadSettings, BadLength, UnknownWord, WrongMode, NoSuchWord, NoPartner, ListEnds, BadNumber, TooManyWords, ExtraBytes}
+use Rattle.settings.specs.declared.Refusal.the-variants.{BadSettings, BadLength, UnknownWord, WrongMode, NoSuchWord, NoPartner, ListEnds, BadNumber, TooManyWords, ExtraBytes, NotText, ShortRoom}
 
 numbered : ℕ → Refusal
 numbered n =
@@ -20,7 +20,9 @@ numbered n =
     (cond (eqb n 6) NoPartner
     (cond (eqb n 7) ListEnds
     (cond (eqb n 8) BadNumber
-    (cond (eqb n 9) TooManyWords ExtraBytes))))))))
+    (cond (eqb n 9) TooManyWords
+    (cond (eqb n 10) ExtraBytes
+    (cond (eqb n 11) NotText ShortRoom))))))))))
 
 numbered-back : (r : Refusal) → numbered (refusalNumber r) ≡ r
 unfolding numbered
@@ -34,6 +36,8 @@ numbered-back ListEnds = refl
 numbered-back BadNumber = refl
 numbered-back TooManyWords = refl
 numbered-back ExtraBytes = refl
+numbered-back NotText = refl
+numbered-back ShortRoom = refl
 
 pub refusal-known : (r q : Refusal) → refusalNumber r ≡ refusalNumber q → r ≡ q
 refusal-known r q e = sym (numbered-back r) ∙ ap numbered e ∙ numbered-back q
@@ -49,6 +53,8 @@ refusal-not-0 ListEnds = omega arith
 refusal-not-0 BadNumber = omega arith
 refusal-not-0 TooManyWords = omega arith
 refusal-not-0 ExtraBytes = omega arith
+refusal-not-0 NotText = omega arith
+refusal-not-0 ShortRoom = omega arith
 
 pub not-0 : (r : Refusal) → refusalNumber r ≢ 0
 not-0 r e = omega (arith, refusal-not-0 r)

@@ -93,9 +93,13 @@ pub enum Refusal {
     TooManyWords,
     // 10: bytes after the last word.
     ExtraBytes,
+    // 11: the text is not of the language.
+    NotText,
+    // 12: the room is shorter than the text.
+    ShortRoom,
 }
 
-// The number that document 01 gives the refusal.
+// The number that document 01 gives the refusal, or request One of document 02.
 pub fn refusal_number(refusal: Refusal) -> u32
     ensures { λ r. ⌜ r ≡ refusalNumber refusal ⌝ }
 {
@@ -110,6 +114,8 @@ pub fn refusal_number(refusal: Refusal) -> u32
         Refusal::BadNumber => 8,
         Refusal::TooManyWords => 9,
         Refusal::ExtraBytes => 10,
+        Refusal::NotText => 11,
+        Refusal::ShortRoom => 12,
     }
 }
 

@@ -1,21 +1,34 @@
-// Holds decode, encode and partner to what LLVM's disassembler says of a few thousand words. The words and
+// Holds decode, encode, partner, print and read to what LLVM's disassembler says of a few thousand words. The words and
 // LLVM's answers are on standard input, made by tests/llvm/make_vectors.py, whose header has the line's columns.
 ghost use Prim.Native.Nat.{_<_, _≤_};
 use encoding::Encoded;
 use settings::Features;
 use settings::Modes;
 use settings::Settings;
+use spelling::Printed;
+use spelling::WordRead;
 use words::Decoded;
 use words::Fields;
 use words::Partnered;
 
 const ALL_FEATURES: u32 = 31;
-// An answer that is no refusal number: decode found other fields than the line's, or encode another word than is due.
+// An answer that is no refusal number: decode found other fields than the line's, encode or read another word than is due,
+// or print left another room.
 const OTHER_ANSWER: u32 = 99;
+// Where the line's text begins.
+const TEXT: usize = 51;
+// Longer than any text.
+const ROOM: usize = 64;
+// What the room has before a text is printed into it, and past the text afterwards: a byte of no text.
+const UNTOUCHED: u8 = 7;
+
+fn byte_or(bytes: &[u8], at: usize, past: u8) -> u8 {
+    if at < bytes.len() { bytes[at] } else { past }
+}
 
 // The byte at a place of the line, and 0 past its end, so that no reader has to know the line's length.
 fn byte_at(line: &[u8], at: usize) -> u8 {
-    if at < line.len() { line[at] } else { 0 }
+    byte_or(line, at, 0)
 }
 
 // The value of a digit: `0` to `9` are the bytes 48 to 57, and `A` to `F` 65 to 70.
@@ -94,17 +107,15 @@ fn has_fields(line: &[u8], fields: Fields) -> bool {
         & (number_of(line, 11) == fields.offset)
 }
 
+fn answer_if(right: bool, answer: u32) -> u32 {
+    if right { answer } else { OTHER_ANSWER }
+}
+
 // What decode makes of the line's word: 0 where it finds the line's fields, OTHER_ANSWER where it finds others,
 // else the number of its refusal.
 fn answer(line: &[u8], vl: u32, features: u32) -> u32 {
     match words::decode(settings_with(vl, features), word_of(line)) {
-        Decoded::Word(fields) => {
-            if has_fields(line, fields) {
-                0
-            } else {
-                OTHER_ANSWER
-            }
-        }
+        Decoded::Word(fields) => answer_if(has_fields(line, fields), 0),
         Decoded::Refused(refusal) => settings::refusal_number(refusal),
     }
 }
@@ -139,7 +150,7 @@ fn is_taken_by_sets(line: &[u8]) -> bool {
 // What encode makes of fields: the number of its refusal, or 0 with a word, which must be the one that is due.
 fn encode_answer(settings: Settings, fields: Fields, due: u32) -> u32 {
     match encoding::encode(settings, fields) {
-        Encoded::Word(word) => if word == due { 0 } else { OTHER_ANSWER },
+        Encoded::Word(word) => answer_if(word == due, 0),
         Encoded::Refused(refusal) => settings::refusal_number(refusal),
     }
 }
@@ -236,8 +247,105 @@ fn is_partnered(line: &[u8]) -> bool {
     }
 }
 
+// The place after the first such byte from `at` on, or the end of the list.
+fn place_after(list: &[u8], at: usize, byte: u8) -> usize
+    requires { do ⌜ at < (← ⟦list.len()⟧) ⌝ }
+    ensures { λ r. do ⌜ (at < r) × (r ≤ (← ⟦list.len()⟧ .entry)) ⌝ }
+{
+    let mut i = at;
+    while i < list.len() {
+        i += 1;
+        if list[i - 1] == byte {
+            return i;
+        }
+    }
+    i
+}
+
+fn untouched_room() -> [u8; ROOM] {
+    [UNTOUCHED; ROOM]
+}
+
+// Whether the room has as much of the text as it can hold, and past the text what it had before.
+fn has_text(room: &[u8], text: &[u8]) -> bool {
+    let mut i = 0;
+    while i < room.len() {
+        if room[i] != byte_or(text, i, UNTOUCHED) {
+            return false;
+        }
+        i += 1;
+    }
+    true
+}
+
+// What print makes of the word in an untouched room: 0 where it puts the text there and gives its length, the number of its
+// refusal where it leaves the room, and else OTHER_ANSWER.
+fn print_answer(settings: Settings, word: u32, text: &[u8], room: &mut [u8]) -> u32 {
+    match spelling::print(settings, word, room) {
+        Printed::Text(length) => answer_if((length == text.len()) & has_text(room, text), 0),
+        Printed::Refused(refusal) => answer_if(
+            has_text(room, b""),
+            settings::refusal_number(refusal),
+        ),
+    }
+}
+
+fn print_answer_with(vl: u32, features: u32, word: u32, text: &[u8]) -> u32 {
+    let mut room = untouched_room();
+    print_answer(settings_with(vl, features), word, text, &mut room)
+}
+
+fn is_printed(word: u32, text: &[u8]) -> bool {
+    (print_answer_with(128, ALL_FEATURES, word, text) == 0)
+        & (print_answer_with(128, 0, word, text) == 3)
+        & (print_answer_with(129, ALL_FEATURES, word, text) == 1)
+}
+
+// What read makes of a text: the number of its refusal, or 0 with a word, which must be the one that is due.
+fn read_answer(vl: u32, features: u32, text: &[u8], due: u32) -> u32 {
+    match spelling::read(settings_with(vl, features), text) {
+        WordRead::Word(word) => answer_if(word == due, 0),
+        WordRead::Refused(refusal) => settings::refusal_number(refusal),
+    }
+}
+
+fn is_read(text: &[u8], word: u32) -> bool {
+    (read_answer(128, ALL_FEATURES, text, word) == 0)
+        & (read_answer(128, 0, text, word) == 3)
+        & (read_answer(129, ALL_FEATURES, text, word) == 1)
+}
+
+// Whether print refuses the word, which is none of the five, and read the text that stands there, whatever it is.
+fn has_no_text(word: u32, text: &[u8]) -> bool {
+    (print_answer_with(128, ALL_FEATURES, word, text) == 3)
+        & (print_answer_with(129, ALL_FEATURES, word, text) == 1)
+        & (read_answer(128, ALL_FEATURES, text, word) == 11)
+        & (read_answer(128, 0, text, word) == 11)
+        & (read_answer(129, ALL_FEATURES, text, word) == 1)
+}
+
+fn is_text_of(text: &[u8], word: u32, family: u32) -> bool {
+    match family {
+        0 => has_no_text(word, text),
+        _ => is_printed(word, text) & is_read(text, word),
+    }
+}
+
+// The text ends before the line's end.
+fn is_spelled(line: &[u8]) -> bool {
+    let length = line.len();
+    if length <= TEXT {
+        return false;
+    }
+    is_text_of(&line[TEXT..length - 1], word_of(line), family_of(line))
+}
+
 fn is_right(line: &[u8]) -> bool {
-    is_decoded(line) & is_taken_by_sets(line) & is_encoded(line) & is_partnered(line)
+    is_decoded(line)
+        & is_taken_by_sets(line)
+        & is_encoded(line)
+        & is_partnered(line)
+        & is_spelled(line)
 }
 
 // How many words of this line decode describes: 0 or 1.
@@ -291,21 +399,6 @@ fn print_counts(words: usize, described: usize, wrong: usize)
     io::write_all(1, b" wrong\n");
 }
 
-// The place of the line after the one at `at`: after its line end, or the end of the list.
-fn next_line(list: &[u8], at: usize) -> usize
-    requires { do ⌜ at < (← ⟦list.len()⟧) ⌝ }
-    ensures { λ r. do ⌜ (at < r) × (r ≤ (← ⟦list.len()⟧ .entry)) ⌝ }
-{
-    let mut i = at;
-    while i < list.len() {
-        i += 1;
-        if list[i - 1] == b'\n' {
-            return i;
-        }
-    }
-    i
-}
-
 // Checks each line, and then says how many words there were.
 fn check_list(list: &[u8]) {
     let mut at = 0;
@@ -313,10 +406,11 @@ fn check_list(list: &[u8]) {
     let mut described = 0;
     let mut wrong = 0;
     while at < list.len() {
-        described += described_in(&list[at..]);
-        wrong += wrong_in(&list[at..]);
+        let next = place_after(list, at, b'\n');
+        described += described_in(&list[at..next]);
+        wrong += wrong_in(&list[at..next]);
         words += 1;
-        at = next_line(list, at);
+        at = next;
     }
     print_counts(words, described, wrong);
 }

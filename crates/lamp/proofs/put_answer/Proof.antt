@@ -7,7 +7,7 @@ use lib.Seq.{length-take-le}
 use Rattle.runlist.specs.Plan.{lengthsOf, Found, Asked, mostWords, planOf}
 use Rattle.runlist.specs.RunList.{RunPromise}
 use Rattle.runlist.specs.declared.RunAnswer.{RunAnswer}
-use Rattle.lines.proofs.Pieces.{said}
+use Rattle.pieces.proofs.Pieces.{said}
 use Rattle.lamp.specs.Lamp.{wordsOf}
 use Rattle.lamp.proofs.Text.{accepted, front, text-ran, text-refused}
 use borrow.Author.Needs.{needs}

@@ -3,7 +3,7 @@ use native.Mathlib.Omega.{arith}
 use mathlib.Core.Path.{sym}
 use lib.ListN.{replicate}
 use lib.Seq.{length-take-le}
-use Rattle.lines.proofs.Pieces.{said}
+use Rattle.pieces.proofs.Pieces.{said}
 use Rattle.lamp.proofs.Lent.{square, as-printed}
 use borrow.Author.Needs.{needs}
 use Rattle.lamp.proofs.put_printed.Statement.{statement}

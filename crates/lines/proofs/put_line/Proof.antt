@@ -1,7 +1,7 @@
 -- `lines::put_line` meets its contract. Assumes nothing.
 use native.Mathlib.Omega.{arith}
 use Rattle.lines.specs.Lines.{wordLine}
-use Rattle.lines.proofs.Pieces.{and-then}
+use Rattle.pieces.proofs.Pieces.{and-then}
 use borrow.Author.Needs.{needs}
 use Rattle.lines.proofs.put_line.Statement.{statement}
 use Rattle.lines.proofs.put_line.Tie as tie

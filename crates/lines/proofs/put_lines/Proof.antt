@@ -4,8 +4,9 @@ use native.Mathlib.Omega.{arith}
 use mathlib.Core.Path.{_≡_, refl, ap}
 use borrow.Author.Needs.{needs}
 use lib.ListN.{length}
-use Rattle.lines.specs.Lines.{wordLines, Wrote}
-use Rattle.lines.proofs.Pieces.{said}
+use Rattle.pieces.specs.Pieces.{Wrote}
+use Rattle.lines.specs.Lines.{wordLines}
+use Rattle.pieces.proofs.Pieces.{said}
 use Rattle.lines.proofs.Lines.{no-lines, one-line}
 use Rattle.lines.proofs.put_lines.Statement.{statement}
 use Rattle.lines.proofs.put_lines.Tie as tie

@@ -1,6 +1,6 @@
 -- `lines::put_number` meets its contract. Assumes nothing.
 use native.Mathlib.Omega.{arith}
-use Rattle.lines.proofs.Pieces.{and-then}
+use Rattle.pieces.proofs.Pieces.{and-then}
 use borrow.Author.Needs.{needs}
 use Rattle.lines.proofs.put_number.Statement.{statement}
 use Rattle.lines.proofs.put_number.Tie as tie

@@ -1,6 +1,6 @@
 -- `lines::put_outcome` meets its contract. Assumes nothing.
 use native.Mathlib.Omega.{arith}
-use Rattle.lines.proofs.Pieces.{said}
+use Rattle.pieces.proofs.Pieces.{said}
 use Rattle.lines.proofs.Lines.{ran, refused}
 use borrow.Author.Needs.{needs}
 use Rattle.lines.proofs.put_outcome.Statement.{statement}

@@ -1,6 +1,6 @@
 -- `lines::put_ran` meets its contract. Assumes nothing.
 use Rattle.lines.specs.Lines.{wordsLine, totalLine, ranLines}
-use Rattle.lines.proofs.Pieces.{and-then, ends-inside}
+use Rattle.pieces.proofs.Pieces.{and-then, ends-inside}
 use borrow.Author.Needs.{needs}
 use Rattle.lines.proofs.put_ran.Statement.{statement}
 use Rattle.lines.proofs.put_ran.Tie as tie

@@ -1,6 +1,7 @@
 -- `lines::put_refused` meets its contract. Assumes nothing.
-use Rattle.lines.specs.Lines.{text, decimal, refusedLine}
-use Rattle.lines.proofs.Pieces.{ends-inside}
+use Rattle.pieces.specs.Pieces.{text, decimal}
+use Rattle.lines.specs.Lines.{refusedLine}
+use Rattle.pieces.proofs.Pieces.{ends-inside}
 use Rattle.lines.proofs.Lines.{and-last}
 use borrow.Author.Needs.{needs}
 use Rattle.lines.proofs.put_refused.Statement.{statement}

@@ -1,7 +1,7 @@
 -- `lines::put_word` meets its contract. Assumes nothing.
 use native.Mathlib.Omega.{arith}
-use Rattle.lines.specs.Lines.{hex8}
-use Rattle.lines.proofs.Pieces.{and-then}
+use Rattle.pieces.specs.Pieces.{hex8}
+use Rattle.pieces.proofs.Pieces.{and-then}
 use borrow.Author.Needs.{needs}
 use Rattle.lines.proofs.put_word.Statement.{statement}
 use Rattle.lines.proofs.put_word.Tie as tie

@@ -16,6 +16,9 @@ abbrev μ-loop : tie.MeasureT-loop
 loop-holds : tie.Need-loop-holds Inv-loop μ-loop
 loop-holds c = search needs
 
+place-after-requires : tie.Need-place-after-requires Inv-loop μ-loop
+place-after-requires c κs = search needs
+
 sub-described-in : tie.Need-sub-described-in Inv-loop μ-loop
 sub-described-in c = search needs
 
@@ -49,9 +52,6 @@ add-wrong c = search needs
 add-words : tie.Need-add-words Inv-loop μ-loop
 add-words c = search needs
 
-next-line-requires : tie.Need-next-line-requires Inv-loop μ-loop
-next-line-requires c κs = search needs
-
 loop-less : tie.Need-loop-less Inv-loop μ-loop
 loop-less c = search needs
 
@@ -71,6 +71,7 @@ check-list-spec =
     Inv-loop
     μ-loop
     loop-holds
+    place-after-requires
     sub-described-in
     part-described-in-start
     part-described-in-end
@@ -82,7 +83,6 @@ check-list-spec =
     wrong-in-requires
     add-wrong
     add-words
-    next-line-requires
     loop-less
     loop-again
     print-counts-requires

@@ -1,0 +1,39 @@
+-- The landed requests of document 02, a record each, as Demands.antt has the three demands: a field is a statement that the request makes, in its
+-- words, and proofs/Requests.antt proves each record. What a request says of answers and refusals stands in Demand1.
+use Prim.Native.Nat.{ℕ, _≤_}
+use mathlib.Core.Path.{_≡_}
+use mathlib.Core.Bool.{true, false}
+use mathlib.Core.List.{List, _++_}
+use lib.ListN.{length, drop}
+use Rattle.settings.specs.declared.Settings.{Settings}
+use Rattle.words.specs.Says.{table, SaidBy}
+use Rattle.words.specs.Decode.{decodePaper}
+use Rattle.words.specs.declared.Fields.{Fields}
+use Rattle.pieces.specs.Pieces.{text}
+use Rattle.spelling.specs.Spell.{spell}
+use Rattle.spelling.specs.Print.{printPaper}
+use Rattle.spelling.specs.Language.{Spells, Reads}
+use Rattle.spelling.specs.Theorems.{OneReading, PrintAfterRead, ReadAfterPrint, NoLonger, OneAsLong}
+
+-- One. "Arm's preferred assembler text for every word of the five families, in lower case with one fixed spacing, and a reader for it"
+pub record RequestOne : Type 0 where
+  -- "C1A20008 prints as .."
+  pub of-c1a20008 : (s : Settings) (f : Fields) → decodePaper s 0xC1A20008 ≡ (0, f)
+      → spell false f ≡ text "smlsll za.s[w8, 0:3, vgx2], { z0.b-z1.b }, { z2.b-z3.b }"
+  -- "an answer written into lent room comes with its length, and the room past it stays"
+  pub printed : (s : Settings) (w : ℕ) (f : Fields) (room : List ℕ) → decodePaper s w ≡ (0, f) → length (spell false f) ≤ length room
+      → printPaper s w room ≡ ((0, length (spell false f)), spell false f ++ drop (length (spell false f)) room)
+  -- "The reader takes the printed text, and also the text without vgx2 or vgx4": what is printed reads back to the word, with vgx and without
+  pub takes-printed : ReadAfterPrint false
+  pub takes-short : ReadAfterPrint true
+  -- "nothing else": what is read is a text of the language
+  pub nothing-else : (s : Settings) (t : List ℕ) (w : ℕ) → Reads s t (0, w) → Spells t w
+  -- "each accepted text has one reading"
+  pub one-reading : OneReading
+  -- "printing that reading gives the preferred text"
+  pub print-after-read : PrintAfterRead
+  -- "A number that no word of the family can carry is not of the language": the fields of a text are those of its word
+  pub numbers-of-words : (t : List ℕ) (w : ℕ) (p : Spells t w) → SaidBy table w (p .fields)
+  -- no text is longer than the constant, and one is as long
+  pub no-longer : NoLonger
+  pub one-as-long : OneAsLong

@@ -1,0 +1,5 @@
+pub mod Answers
+pub mod Digits
+pub mod Ends
+pub mod Theorems
+pub mod Back

@@ -1,0 +1,23 @@
+use borrow.Author.Needs.{needs}
+use native.Mathlib.Omega.{arith}
+use mathlib.Core.Path.{_≡_, sym, ap}
+use Prim.Native.Nat.{ℕ, _+_}
+use Rattle.spelling.specs.Rows.{syntaxAt}
+use Rattle.spelling.specs.Candidate.{paddedAt}
+use Rattle.spelling.proofs.row_c.Statement.{statement}
+use Rattle.spelling.proofs.row_c.Tie as tie
+use Rattle.spelling.proofs.row_c.Reads as reads
+use Rattle.spelling.proofs.row_c.Lts as lts
+
+-- src/lib.rt:88:1
+returns : tie.Need-returns
+unfolding paddedAt syntaxAt
+returns c = sym (ap (λ (j : ℕ). paddedAt (10 + j)) (c .before .before .match .keys1))
+
+-- src/lib.rt:88:1
+returns-2 : tie.Need-returns-2
+unfolding paddedAt syntaxAt
+returns-2 c = let e : c .before .before .before .args .j ≡ 1 = omega (arith, c .before .before .match .rest) in sym (ap (λ (j : ℕ). paddedAt (10 + j)) e)
+
+pub row-c-spec : {M : Type 1} → statement M
+row-c-spec = tie.close (tie.spec returns returns-2)
