@@ -147,7 +147,7 @@ fn word_e4(f: Fields) -> u32
 }
 
 // The only word that can have the fields.
-fn candidate(f: Fields) -> u32
+pub fn candidate(f: Fields) -> u32
     ensures { λ r. ⌜ r ≡ candidateOf f ⌝ }
 {
     let family = f.family;
@@ -199,7 +199,7 @@ fn same(f: Fields, g: Fields) -> bool
 
 // Whether the candidate has exactly these fields. Only the row that it was built by is asked: no word has two. B's fields are
 // read with the lane that is asked for, so that lanes which no word of B has are turned away before.
-fn has(word: u32, f: Fields) -> bool
+pub fn has(word: u32, f: Fields) -> bool
     requires { ⌜ word ≡ candidateOf f ⌝ }
     ensures { λ r. ⌜ r ≡ saysOnly f (describe word) ⌝ }
 {

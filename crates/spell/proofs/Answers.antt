@@ -22,7 +22,7 @@ use Rattle.words.specs.declared.Fields.{Fields}
 use Rattle.words.proofs.Answers.{decodes-exactly}
 use Rattle.spelling.specs.Spell.{spell, longestText}
 use Rattle.spelling.specs.Print.{putInto, printAfter, printPaper, PrintPromise}
-use Rattle.spelling.specs.Language.{Reads, bad-settings, not-text, not-enabled, a-word}
+use Rattle.spelling.specs.Language.{Spells, Reads, a-word}
 use Rattle.spelling.specs.declared.Printed.the-variants.{Text, Refused}
 use Rattle.spelling.proofs.Longest.{no-longer}
 use Rattle.spell.specs.Spelled.{allOn, unlessRefused, refusalText, wordText}
@@ -130,12 +130,12 @@ word-three : (w : ℕ) → (decodePaper allOn w .0 ≡ 0 → ⊥) → decodePape
 unfolding decodePaper decodeEnabled validSettings
 word-three w h = three-only (describe w) h
 
-pub eleven-only : (line : List ℕ) (x : ℕ × ℕ) → Reads allOn line x → eqb (x .0) 0 ≡ false → x ≡ (11, 0)
+pub valid : validSettings allOn ≡ true
 unfolding validSettings
-eleven-only line x (bad-settings v) h = absurd (never-both _ refl v)
-eleven-only line x (not-text _ _) h = refl
-eleven-only line x (not-enabled _ w p e) h = absurd (never-both _ (on (p .fields)) e)
-eleven-only line x (a-word _ w p e) h = absurd (never-both _ refl h)
+valid = refl
+
+pub reads-word : (line : List ℕ) (w : ℕ) → Spells line w → Reads allOn line (0, w)
+reads-word line w p = a-word valid w p (on (p .fields))
 
 pub print-refused : (w : ℕ) → w < 2 ^ 32 → (r : Refusal) (room room′ : List ℕ) → longestText ≤ length room
     → PrintPromise allOn w room (Refused r) room′ → (room ≡ room′) × (refusalText 3 ≡ wordText (decodePaper allOn w))

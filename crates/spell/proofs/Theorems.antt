@@ -10,13 +10,13 @@ use borrow.Author.Tests.{ne-eqb}
 use Rattle.laws.proofs.Tests.{never-both, by-lt}
 use Rattle.pieces.specs.Pieces.{text, hex8}
 use Rattle.pieces.proofs.Pieces.{said, wrote-unique}
-use Rattle.settings.specs.Valid.{validSettings}
 use Rattle.spelling.specs.Spell.{longestText}
 use Rattle.spelling.specs.Language.{Spells, Reads, not-text}
 use Rattle.spelling.proofs.Theorems.{reads-unique}
 use Rattle.spelling.proofs.Longest.{no-longer}
 use Rattle.spell.specs.Spelled.{allOn, isWord, unlessRefused, Answers, Answered, to-word, to-text}
 use Rattle.spell.specs.Theorems.{OneAnswer, EnoughKept}
+use Rattle.spell.proofs.Answers.{valid}
 
 pub answer-unique : OneAnswer
 answer-unique line a b (to-word p) (to-word q) = refl
@@ -36,10 +36,6 @@ answered-unique line room room₁ room₂ r q x y =
 no-word : (line : List ℕ) → longestText < length line → isWord line ≡ false
 unfolding isWord
 no-word line h = rw (ne-eqb (length line) 8 (λ (e : length line ≡ 8). omega arith))
-
-valid : validSettings allOn ≡ true
-unfolding validSettings
-valid = refl
 
 no-text : (line : List ℕ) → longestText < length line → Reads allOn line (11, 0)
 no-text line h = not-text valid (λ (w : ℕ) (p : Spells line w). omega (arith, no-longer line w p))

@@ -1,6 +1,6 @@
 -- What the program `spell` prints for a line, which is a list of bytes without its line end: "a line of eight hexadecimal digits becomes the word's text, a
 -- line of text becomes the word's eight upper-case digits, any other line becomes `refused N` (with N of the call); all features are on".
-use Prim.Native.Nat.{ℕ, zero, suc, _+_, _*_, _/_, _%_, _^_, _≤_, _<_}
+use Prim.Native.Nat.{ℕ, zero, suc, _+_, _*_, _/_, _%_, _^_}
 use Prim.Native.String.{String}
 use mathlib.Core.Path.{_≡_}
 use mathlib.Core.Bool.{Bool, true, false, _&&_, _||_, cond}
@@ -71,18 +71,8 @@ pub record Answered (line room room′ : List ℕ) (r : ℕ) : Type 0 where
   pub answers : Answers line answer
   pub wrote : Wrote answer 0 room room′ r
 
--- ---- only contracts use these: one number for an answer or for none
+-- ---- only a contract uses this: one number for a word or for none
 
 -- the word of a line, or 2 ^ 32
 unfoldable pub wordIn : List ℕ → ℕ
 wordIn line = cond (isWord line) (wordOf line) (2 ^ 32)
-
--- a text that is read: its word, or 2 ^ 32. Since all features are on, it is refused with 11 only
-pub record TextRead (line : List ℕ) (r : ℕ) : Type 0 where
-  pub word : r < 2 ^ 32 → Reads allOn line (0, r)
-  pub refusal : 2 ^ 32 ≤ r → Reads allOn line (11, 0)
-
--- a word that is printed: the length of its text, or 64. It is refused with 3 only
-pub record WordPrinted (w : ℕ) (room room′ : List ℕ) (r : ℕ) : Type 0 where
-  pub written : r < 64 → Wrote (wordText (decodePaper allOn w)) 0 room room′ r
-  pub refusal : 64 ≤ r → (room ≡ room′) × (refusalText 3 ≡ wordText (decodePaper allOn w))

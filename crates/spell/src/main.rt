@@ -1,17 +1,20 @@
 // For people: a line of eight hexadecimal digits becomes the text of the word, and a line of text becomes the word.
 ghost use mathlib.Core.Path.{_≡_};
+ghost use mathlib.Core.Bool.{false};
+ghost use mathlib.Core.List.{_++_};
 ghost use Prim.Native.Nat.{_+_, _≤_, _<_};
 ghost use lib.ListN.{length};
 ghost use Rattle.io.specs.Counts.{Counts};
+ghost use Rattle.pieces.specs.Pieces.{text, Wrote};
+ghost use Rattle.words.specs.Decode.{decodePaper};
 ghost use Rattle.spelling.specs.Spell.{longestText};
-ghost use Rattle.spell.specs.Spelled.{allOn, isHexDigit, digitOf, wordIn, Answered, TextRead, WordPrinted};
+ghost use Rattle.spell.specs.Spelled.{allOn, isHexDigit, digitOf, isWord, wordIn, wordText, Answered};
 use libc::STDIN_FILENO;
 use libc::STDOUT_FILENO;
 use settings::Features;
 use settings::Modes;
 use settings::Settings;
 use spelling::Printed;
-use spelling::WordRead;
 
 fn all_on() -> Settings
     ensures { λ r. ⌜ r ≡ allOn ⌝ }
@@ -77,25 +80,32 @@ fn room() -> [u8; ROOM]
     [0; ROOM]
 }
 
-// Prints a word: the length of its text, or 64. Since all features are on, a word is refused with 3 only.
-fn print_to(out: &mut [u8], word: u32) -> usize
+// The text of a word, or its refusal. Since all features are on, a word is refused with 3 only.
+fn put_text_of(out: &mut [u8], word: u32) -> usize
     requires { ⌜ 64 ≤ length (now out) ⌝ }
-    ensures { λ r. ⌜ WordPrinted word (now (out .entry)) (now (out .exit)) r ⌝ }
+    ensures { λ r. ⌜ Wrote (wordText (decodePaper allOn word) ++ text "\n") 0 (now (out .entry)) (now (out .exit)) r ⌝ }
 {
     match spelling::print(all_on(), word, out) {
-        Printed::Text(n) => n,
-        Printed::Refused(_) => ROOM,
+        Printed::Text(n) => {
+            out[n] = b'\n';
+            n + 1
+        }
+        Printed::Refused(_) => pieces::put_text(out, 0, b"refused 3\n"),
     }
 }
 
-// Reads a text: its word, or 2 ^ 32. Since all features are on, a text is refused with 11 only.
-fn read_from(text: &[u8]) -> u64
-    ensures { λ r. ⌜ TextRead (now (text .entry)) r ⌝ }
+// The word of a text, or its refusal. Since all features are on, a text is refused with 11 only.
+fn put_word_of(out: &mut [u8], line: &[u8]) -> usize
+    requires { ⌜ 64 ≤ length (now out) ⌝ }
+    ensures { λ r. ⌜ (isWord (now (line .entry)) ≡ false → Answered (now (line .entry)) (now (out .entry)) (now (out .exit)) r) × Counts r (now (out .exit)) ⌝ }
 {
-    match spelling::read(all_on(), text) {
-        WordRead::Word(word) => word as u64,
-        WordRead::Refused(_) => NO_WORD,
+    let word = spelling::word_of(line);
+    if word < NO_WORD {
+        let end = pieces::put_digits(out, 0, word, 16, 8);
+        out[end] = b'\n';
+        return end + 1;
     }
+    pieces::put_text(out, 0, b"refused 11\n")
 }
 
 // The answer to a line, with the line's end.
@@ -106,20 +116,9 @@ fn put_answer(out: &mut [u8], line: &[u8]) -> usize
 {
     let word = word_in(line);
     if word < NO_WORD {
-        let end = print_to(out, word as u32);
-        if end < ROOM {
-            out[end] = b'\n';
-            return end + 1;
-        }
-        return pieces::put_text(out, 0, b"refused 3\n");
+        return put_text_of(out, word as u32);
     }
-    let read = read_from(line);
-    if read < NO_WORD {
-        let end = pieces::put_digits(out, 0, read, 16, 8);
-        out[end] = b'\n';
-        return end + 1;
-    }
-    pieces::put_text(out, 0, b"refused 11\n")
+    put_word_of(out, line)
 }
 
 // ---- lines in, answers out

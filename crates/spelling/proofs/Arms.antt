@@ -35,6 +35,12 @@ each-front P z zero (v ∷ vs) e i h = absurd (omega arith)
 each-front P z (suc n) (v ∷ vs) e zero h = e .0
 each-front P z (suc n) (v ∷ vs) e (suc i) h = each-front P z n vs (e .1) i (omega arith)
 
+-- what all have
+pub each-all : (P : ℕ → Type 0) → P 0 → (vs : List ℕ) → Each P vs → (i : ℕ) → P (getD vs i 0)
+each-all P z [] e i = z
+each-all P z (v ∷ vs) e zero = e .0
+each-all P z (v ∷ vs) e (suc i) = each-all P z vs (e .1) i
+
 pub part-small : (k : ℕ) → k < 18 → getD rowParts k 0 < 2
 part-small = each-front (λ (v : ℕ). v < 2) (omega arith) 18 rowParts (omega arith)
 

@@ -6,14 +6,15 @@ use mathlib.Core.Path.{_≡_, refl, sym, ap, _∙_}
 use mathlib.Core.Bool.{Bool, true, false, _&&_, cond}
 use mathlib.Core.List.{List, [], _∷_}
 use lib.Dec.{eqb}
-use lib.ListN.{getD, take}
+use lib.ListN.{getD, take, drop}
+use lib.Seq.{getD-drop}
 use borrow.Author.Tests.{lt-ltb}
 use Rattle.laws.specs.Lists.{Each}
 use Rattle.laws.proofs.Bits.{one-bit}
-use Rattle.laws.proofs.Tests.{both, cond-holds}
+use Rattle.laws.proofs.Tests.{both, cond-holds, by-lt}
 use Rattle.layouts.specs.Layout.{value}
 use Rattle.pieces.specs.Pieces.{text}
-use Rattle.syntax.specs.Syntax.{isNumber, valueIn, fill, TwoDigits}
+use Rattle.syntax.specs.Syntax.{isNumber, valueIn, fill, TwoDigits, OneByte}
 use Rattle.syntax.specs.Scan.{isLetter, taken, clear, among}
 use Rattle.syntax.proofs.Laws.{number-range, taken-fill}
 use Rattle.words.specs.Says.{As, describe, isOne}
@@ -26,8 +27,8 @@ use Rattle.words.proofs.Ranges.{by-size}
 use Rattle.spelling.specs.Rows.{syntaxes, nth, syntaxAt}
 use Rattle.spelling.specs.Spell.{byteOf, lastOffset, signByte, addByte, partByte, letters, letterValues, rowFor, spell}
 use Rattle.spelling.specs.Candidate.{valueNamed, groupOf, fieldsBy, candidateAt}
-use Rattle.spelling.specs.Tried.{Figures}
-use Rattle.spelling.proofs.Arms.{each-front}
+use Rattle.spelling.specs.Found.{Figures}
+use Rattle.spelling.proofs.Arms.{each-front, each-all}
 
 -- ---- the rows pass their test
 
@@ -86,6 +87,30 @@ pub two-digits : (f : Fields) → Figures f → TwoDigits (letterValues f)
 two-digits f g c n =
     let r = number-range c n in
     each-front (λ (v : ℕ). v < 100) (omega arith) 18 (letterValues f) (front-small f g) (c - 65) (omega arith)
+
+choice-small : (b : Bool) (x y : ℕ) → x < 256 → y < 256 → cond b x y < 256
+choice-small true x y h g = h
+choice-small false x y h g = g
+
+-- and the others fit a byte
+rest-small : (f : Fields) → Each (λ (v : ℕ). v < 256) (drop 18 (letterValues f))
+unfolding letterValues
+rest-small f =
+    let z : 0 < 256 = omega arith in
+    choice-small (f .subtract) 115 97 (omega arith) (omega arith) then choice-small (eqb (f .part) 0) 98 116 (omega arith) (omega arith)
+    then choice-small (f .unsigned) 117 115 (omega arith) (omega arith) then z then z then z then z then z then tt
+
+rest-byte : (f : Fields) (i : ℕ) → 18 ≤ i → getD (letterValues f) i 0 < 256
+rest-byte f i h =
+    let e : 18 + (i - 18) ≡ i = omega arith in
+    let same : getD (drop 18 (letterValues f)) (i - 18) 0 ≡ getD (letterValues f) i 0 = getD-drop 18 (letterValues f) (i - 18) 0 ∙ ap (λ (j : ℕ). getD (letterValues f) j 0) e in
+    omega (arith, same, each-all (λ (v : ℕ). v < 256) (omega arith) (drop 18 (letterValues f)) (rest-small f) (i - 18))
+
+pub one-byte : (f : Fields) → Figures f → OneByte (letterValues f)
+one-byte f g c =
+    by-lt (c - 65) 18
+    (λ (l : c - 65 < 18). omega (arith, each-front (λ (v : ℕ). v < 100) (omega arith) 18 (letterValues f) (front-small f g) (c - 65) l))
+    (rest-byte f (c - 65))
 
 -- ---- what a candidate is made of
 

@@ -1,14 +1,26 @@
 -- Rows with blanks behind them: a row is what stands before the blanks. Assumes nothing.
-use Prim.Native.Nat.{ℕ, _-_, _<_, _≤_}
+use Prim.Native.Nat.{ℕ, zero, suc, _-_, _<_, _≤_}
+use Prim.Native.String.{String}
 use native.Mathlib.Omega.{arith}
 use mathlib.Core.Path.{_≡_, refl, sym, ap, _∙_}
-use mathlib.Core.List.{List, [], _∷_}
+use mathlib.Core.List.{List, [], _∷_, map}
 use lib.ListN.{length, getD, take, replicate}
 use lib.Seq.{take-at}
-use Rattle.spelling.specs.Rows.{syntaxAt}
+use Rattle.pieces.specs.Pieces.{text}
+use Rattle.spelling.specs.Rows.{syntaxes, nth, syntaxAt}
 use Rattle.spelling.specs.Spell.{byteOf}
-use Rattle.spelling.specs.Candidate.{paddedAt}
+use Rattle.spelling.specs.Candidate.{padded, paddedAt}
 use Rattle.spelling.proofs.Arms.{each-below}
+
+-- the table of the rows with blanks has each at its number
+row-of-table : (ss : List String) (k : ℕ) (d : List ℕ) → k < length ss → getD (map (λ (s : String). padded (text s)) ss) k d ≡ padded (nth ss k)
+row-of-table [] k d h = absurd (omega arith)
+row-of-table (s ∷ ss) zero d h = refl
+row-of-table (s ∷ ss) (suc k) d h = row-of-table ss k d (omega arith)
+
+pub rows-are : (k : ℕ) (d : List ℕ) → k < 18 → getD (map (λ (s : String). padded (text s)) syntaxes) k d ≡ paddedAt k
+unfolding paddedAt syntaxAt
+rows-are k d h = row-of-table syntaxes k d h
 
 pub front : (k n : ℕ) (row : List ℕ) → row ≡ paddedAt k → n ≡ length (syntaxAt k) → take n row ≡ syntaxAt k
 unfolding paddedAt

@@ -19,9 +19,9 @@ use Rattle.spelling.specs.Rows.{syntaxAt}
 use Rattle.spelling.specs.Spell.{letterValues, rowFor, spell}
 use Rattle.spelling.specs.Print.{putInto, printPaper}
 
-pub spelled : (f : Fields) (k : ℕ) (row t : List ℕ) → k ≡ rowFor false f → row ≡ syntaxAt k → t ≡ fill (letterValues f) row → t ≡ spell false f
+pub spelled : (f : Fields) (k : ℕ) (t : List ℕ) → k ≡ rowFor false f → t ≡ fill (letterValues f) (syntaxAt k) → t ≡ spell false f
 unfolding spell
-spelled f k row t a b c = c ∙ ap (fill (letterValues f)) (b ∙ ap syntaxAt a)
+spelled f k t a b = b ∙ ap (λ (j : ℕ). fill (letterValues f) (syntaxAt j)) a
 
 pub no-room : (t u room : List ℕ) (n : ℕ) → n ≡ length u → u ≡ t → length room < n → _≡_ {A = (ℕ × ℕ) × List ℕ} ((12, 0), room) (putInto t room)
 no-room t u room n a b h =

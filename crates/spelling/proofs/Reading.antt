@@ -1,48 +1,38 @@
--- What a row that is tried says of a text. Assumes nothing.
-use Prim.Native.Nat.{ℕ, _+_, _<_, _≤_}
+-- What a row that is tried says of a text, and what a word that was found is by the settings. Assumes nothing.
+use Prim.Native.Nat.{ℕ, _+_, _<_, _≤_, _^_}
 use native.Mathlib.Omega.{arith}
-use mathlib.Core.Path.{_≡_, refl, sym, ap, _∙_, subst}
+use mathlib.Core.Path.{_≡_, refl, sym, ap, _∙_}
 use mathlib.Core.Bool.{Bool, true, false, cond}
 use mathlib.Core.List.{List}
 use lib.Dec.{eqb, ltb}
-use Rattle.laws.proofs.Tests.{never-both, by-lt}
+use Rattle.laws.proofs.Tests.{never-both, by-lt, by-cond}
 use Rattle.syntax.specs.Syntax.{fill, TwoDigits}
 use Rattle.syntax.specs.Scan.{fits, taken}
 use Rattle.syntax.proofs.Laws.{fits-fill}
 use Rattle.settings.specs.Valid.{validSettings}
 use Rattle.settings.specs.declared.Settings.{Settings}
+use Rattle.words.specs.Says.{As, describe}
+use Rattle.words.specs.Decode.{enables, noFields, decodePaper, decodeEnabled}
 use Rattle.words.specs.declared.Family.{Family}
 use Rattle.words.specs.declared.Family.the-variants.{ByElement, Vector, Saturating, LongLong, Long}
 use Rattle.words.specs.declared.Fields.{Fields}
 use Rattle.words.proofs.Table.{_then_}
-use Rattle.encoding.specs.Encode.{Has, Encodes, bad-settings, no-word, not-enabled, a-word}
-use Rattle.spelling.specs.declared.Tried.{Tried}
-use Rattle.spelling.specs.declared.Tried.the-variants as tried
+use Rattle.encoding.specs.Encode.{Has}
 use Rattle.spelling.specs.Rows.{syntaxAt}
 use Rattle.spelling.specs.Spell.{letterValues, rowFor, rowBy, spell}
 use Rattle.spelling.specs.Candidate.{candidateAt}
-use Rattle.spelling.specs.Language.{Spells}
-use Rattle.spelling.specs.Tried.{SpellsBy, Tries, HasEnabled, HasDisabled, WordOf}
+use Rattle.spelling.specs.Language.{Spells, Reads, not-enabled, a-word}
+use Rattle.spelling.specs.Found.{SpellsBy, TheWord}
 use Rattle.spelling.proofs.Arms.{each-below}
 use Rattle.spelling.proofs.Back.{clear-at, figures, two-digits, read-back}
 
-pub of-word : (s : Settings) (f : Fields) (w : ℕ) (a : ℕ × ℕ) → a ≡ (0, w) → Encodes s f a → HasEnabled true s f w
-of-word s f w a e (bad-settings _) = absurd (omega (arith, ap (λ (a : ℕ × ℕ). a .0) e))
-of-word s f w a e (no-word _ _) = absurd (omega (arith, ap (λ (a : ℕ × ℕ). a .0) e))
-of-word s f w a e (not-enabled _ _ _ _) = absurd (omega (arith, ap (λ (a : ℕ × ℕ). a .0) e))
-of-word s f w a e (a-word v x h n) = let q : x ≡ w = ap (λ (a : ℕ × ℕ). a .1) e in record { has = rw (← q) h; enabled = n }
+-- ---- a number that is a word, or none
 
-pub of-disabled : (s : Settings) (f : Fields) (a : ℕ × ℕ) → a .0 ≡ 3 → Encodes s f a → HasDisabled s f
-of-disabled s f a e (bad-settings _) = absurd (omega arith)
-of-disabled s f a e (no-word _ _) = absurd (omega arith)
-of-disabled s f a e (not-enabled v w h n) = record { word = w; found = record { has = h; enabled = n } }
-of-disabled s f a e (a-word v x h n) = absurd (omega arith)
+pub is-word : {P : ℕ → Type 0} (r : ℕ) → r < 2 ^ 32 → P r → TheWord P r
+is-word r h p = record { found = λ _. p; none = λ (g : 2 ^ 32 ≤ r). absurd (omega arith) }
 
-pub of-none : (s : Settings) (f : Fields) (a : ℕ × ℕ) → validSettings s ≡ true → (a .0 ≡ 3 → ⊥) → (a .0 ≡ 0 → ⊥) → Encodes s f a → (w : ℕ) → Has f w → ⊥
-of-none s f a v n z (bad-settings b) w h = never-both _ v b
-of-none s f a v n z (no-word _ k) w h = k w h
-of-none s f a v n z (not-enabled _ _ _ _) w h = n refl
-of-none s f a v n z (a-word _ _ _ _) w h = z refl
+pub is-none : {P : ℕ → Type 0} → ((w : ℕ) → P w → ⊥) → TheWord P (2 ^ 32)
+is-none n = record { found = λ (h : 2 ^ 32 < 2 ^ 32). absurd (omega arith); none = λ _. n }
 
 -- ---- the row of a candidate is the row that it was read by
 
@@ -94,37 +84,27 @@ spelled-text {k} {t} {w} p =
 pub no-word-of : (t : List ℕ) (k : ℕ) (f : Fields) → f ≡ candidateAt k t → ((w : ℕ) → Has f w → ⊥) → (w : ℕ) → SpellsBy k t w → ⊥
 no-word-of t k f a n w p = n w (rw (a ∙ spelled-candidate p) (record { fits = p .spells .fits; says = p .spells .says }))
 
--- a word of the candidate is a reading of a text that is the candidate's
-candidate-spells : (k : ℕ) (t : List ℕ) (w : ℕ) → k < 18 → t ≡ fill (letterValues (candidateAt k t)) (syntaxAt k) → Has (candidateAt k t) w → Spells t w
+-- a word of the candidate is the word of a text that is the candidate's
+pub candidate-spells : (k : ℕ) (t : List ℕ) (f : Fields) (w : ℕ) → k < 18 → f ≡ candidateAt k t → t ≡ fill (letterValues f) (syntaxAt k) → Has f w
+    → SpellsBy k t w
 unfolding spell
-candidate-spells k t w h e a =
+candidate-spells k t f w h a e has =
+    let row : rowFor (ltb 14 k) f ≡ k = ap (rowFor (ltb 14 k)) a ∙ row-again k t h in
     record {
-      fits = a .fits;
-      fields = candidateAt k t;
-      says = a .says;
-      short = ltb 14 k;
-      spelled = e ∙ ap (λ (j : ℕ). fill (letterValues (candidateAt k t)) (syntaxAt j)) (sym (row-again k t h));
+      spells =
+          record {
+            fits = has .fits;
+            fields = f;
+            says = has .says;
+            short = ltb 14 k;
+            spelled = e ∙ ap (λ (j : ℕ). fill (letterValues f) (syntaxAt j)) (sym row);
+          };
+      row = row;
     }
 
--- what is known where the text is the candidate's
-tried-row : (s : Settings) (t : List ℕ) (k : ℕ) (r : Tried) → k < 18 → t ≡ fill (letterValues (candidateAt k t)) (syntaxAt k) → WordOf s (candidateAt k t) r
-    → Tries s t k r
-unfolding candidate-spells
-tried-row s t k (tried.Word w) h e a = record { spells = candidate-spells k t w h e (a .has); enabled = a .enabled }
-tried-row s t k tried.NotEnabled h e a =
-    record { word = a .word; found = record { spells = candidate-spells k t (a .word) h e (a .found .has); enabled = a .found .enabled } }
-tried-row s t k tried.No h e a = no-word-of t k (candidateAt k t) refl a
-
-pub tried-as : (s : Settings) (t : List ℕ) (k : ℕ) (r : Tried) (f : Fields) (row : List ℕ) → k < 18 → row ≡ syntaxAt k → f ≡ candidateAt k t
-    → t ≡ fill (letterValues f) row → WordOf s f r → Tries s t k r
-tried-as s t k r f row h b a e d =
-    tried-row s t k r h (e ∙ ap (fill (letterValues f)) b ∙ ap (λ (g : Fields). fill (letterValues g) (syntaxAt k)) a) (subst (λ (g : Fields). WordOf s g r) a d)
-
 -- where it is not
-pub other-text : (t : List ℕ) (k : ℕ) (f : Fields) (row : List ℕ) → row ≡ syntaxAt k → f ≡ candidateAt k t → (t ≡ fill (letterValues f) row → ⊥)
-    → (w : ℕ) → SpellsBy k t w → ⊥
-other-text t k f row b a n w p =
-    n (spelled-text p ∙ ap (λ (g : Fields). fill (letterValues g) (syntaxAt k)) (sym a) ∙ ap (fill (letterValues f)) (sym b))
+pub other-text : (t : List ℕ) (k : ℕ) (f : Fields) → f ≡ candidateAt k t → (t ≡ fill (letterValues f) (syntaxAt k) → ⊥) → (w : ℕ) → SpellsBy k t w → ⊥
+other-text t k f a n w p = n (spelled-text p ∙ ap (λ (g : Fields). fill (letterValues g) (syntaxAt k)) (sym a))
 
 -- one row more was tried
 pub one-tried : (t : List ℕ) (k : ℕ) → ((j : ℕ) → j < k → (w : ℕ) → SpellsBy j t w → ⊥) → ((w : ℕ) → SpellsBy k t w → ⊥)
@@ -145,3 +125,22 @@ fits-not-row t k row b n w p =
     never-both (fits row t)
     (ap (λ (x : List ℕ). fits x t) b ∙ ap (fits (syntaxAt k)) (spelled-text p) ∙ fits-fill (letterValues (candidateAt k t)) two (syntaxAt k) (clear-at k))
     n
+
+-- ---- a word that was found
+
+-- decode's answer for a word that says something
+decoded-as : (s : Settings) (w : ℕ) (f : Fields) → validSettings s ≡ true → describe w ≡ As f
+    → decodePaper s w ≡ cond (enables (s .features .0) f) (0, f) (3, noFields)
+unfolding decodePaper decodeEnabled
+decoded-as s w f v e = rw (v, e)
+
+pub read-as-decoded : (s : Settings) (t : List ℕ) (w : ℕ) (n : ℕ) (g : Fields) → validSettings s ≡ true → Spells t w → decodePaper s w ≡ (n, g)
+    → Reads s t (n, cond (eqb n 0) w 0)
+read-as-decoded s t w n g v p e =
+    by-cond {A = ℕ × Fields} (enables (s .features .0) (p .fields)) _ _ _ yes no (sym (decoded-as s w (p .fields) v (p .says)) ∙ e)
+  where
+    yes : enables (s .features .0) (p .fields) ≡ true → _≡_ {A = ℕ × Fields} (0, p .fields) (n, g) → Reads s t (n, cond (eqb n 0) w 0)
+    yes b q = rw (← ap (λ (x : ℕ × Fields). x .0) q) (a-word v w p b)
+
+    no : enables (s .features .0) (p .fields) ≡ false → _≡_ {A = ℕ × Fields} (3, noFields) (n, g) → Reads s t (n, cond (eqb n 0) w 0)
+    no b q = rw (← ap (λ (x : ℕ × Fields). x .0) q) (not-enabled v w p b)

@@ -14,10 +14,12 @@ use Rattle.words.specs.declared.Fields.{Fields}
 use Rattle.spelling.specs.Rows.{syntaxAt}
 use Rattle.spelling.specs.Spell.{byteOf, letters}
 
--- the row of a number, with blanks up to 56 bytes
+-- a row with blanks up to 56 bytes
+abbrev pub padded : List ℕ → List ℕ
+padded row = row ++ replicate (56 - length row) (byteOf " ")
+
 unfoldable pub paddedAt : ℕ → List ℕ
-unfolding syntaxAt
-paddedAt k = syntaxAt k ++ replicate (56 - length (syntaxAt k)) (byteOf " ")
+paddedAt k = padded (syntaxAt k)
 
 -- by the row's number: the family, the lane and the part
 abbrev pub familyAt : ℕ → Family

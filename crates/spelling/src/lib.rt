@@ -1,19 +1,18 @@
 // The preferred text of a word, and the word of a text. A row of the syntax is written by `syntax`, with the values of a word's fields, and read by
 // it for the only fields that a text can have: whether the text is theirs is seen by writing it again.
 ghost use mathlib.Core.Path.{_≡_};
-ghost use mathlib.Core.Bool.{true, false};
-ghost use Prim.Native.Nat.{_+_, _-_, _*_, _≤_, _<_};
+ghost use mathlib.Core.Bool.{true, false, cond};
+ghost use Prim.Native.Nat.{_≤_, _<_};
 ghost use lib.ListN.{length, getD};
 ghost use Rattle.pieces.specs.Pieces.{Stands};
 ghost use Rattle.syntax.specs.Syntax.{fill};
-ghost use Rattle.settings.specs.Valid.{validSettings};
+ghost use Rattle.encoding.specs.Encode.{Has};
 ghost use Rattle.spelling.specs.Rows.{syntaxAt};
-ghost use Rattle.spelling.specs.Spell.{signByte, addByte, partByte, lastOffset, letterValues, byPart, rowFor, spell, longestText};
+ghost use Rattle.spelling.specs.Spell.{lastOffset, letterValues, byPart, rowFor, spell, longestText};
 ghost use Rattle.spelling.specs.Print.{printedSays, putInto, PrintPromise};
-ghost use Rattle.spelling.specs.Language.{ReadPromise};
+ghost use Rattle.spelling.specs.Language.{Spells, ReadPromise};
 ghost use Rattle.spelling.specs.Candidate.{paddedAt, familyAt, rowLanes, rowParts, fieldsBy, candidateAt, groupOf};
-ghost use Rattle.spelling.specs.Tried.{Figures, Tries, WordOf};
-use encoding::Encoded;
+ghost use Rattle.spelling.specs.Found.{Figures, SpellsBy, TheWord};
 use settings::Refusal;
 use settings::Settings;
 use words::Decoded;
@@ -32,13 +31,6 @@ pub enum WordRead {
     Refused(Refusal),
 }
 
-// What a row says of a text.
-pub enum Tried {
-    Word(u32),
-    NotEnabled,
-    No,
-}
-
 // The length of the longest text.
 pub fn longest_text() -> usize
     ensures { λ r. ⌜ r ≡ longestText ⌝ }
@@ -53,89 +45,34 @@ const ROWS: usize = 18;
 // Room for a text: the longest row has 56 bytes, and no byte of a row says more than two.
 const OUT: usize = 112;
 
-// A function cannot hand out a byte string, but an array of bytes: so a row ends with blanks, and its length stands apart.
-
-// The rows of A.
-fn row_a(j: usize) -> [u8; 56]
-    requires { ⌜ j < 4 ⌝ }
-    ensures { λ r. ⌜ r ≡ paddedAt (0 + j) ⌝ }
-{
-    match j {
-        0 => *b"UmlSl vD.4s, vN.4h, vM.h[I]                             ",
-        1 => *b"UmlSl2 vD.4s, vN.8h, vM.h[I]                            ",
-        2 => *b"UmlSl vD.2d, vN.2s, vM.s[I]                             ",
-        _ => *b"UmlSl2 vD.2d, vN.4s, vM.s[I]                            ",
-    }
-}
-
-// The rows of B, from row 4 on.
-fn row_b(j: usize) -> [u8; 56]
-    requires { ⌜ j < 6 ⌝ }
-    ensures { λ r. ⌜ r ≡ paddedAt (4 + j) ⌝ }
-{
-    match j {
-        0 => *b"UmlSl vD.8h, vN.8b, vM.8b                               ",
-        1 => *b"UmlSl2 vD.8h, vN.16b, vM.16b                            ",
-        2 => *b"UmlSl vD.4s, vN.4h, vM.4h                               ",
-        3 => *b"UmlSl2 vD.4s, vN.8h, vM.8h                              ",
-        4 => *b"UmlSl vD.2d, vN.2s, vM.2s                               ",
-        _ => *b"UmlSl2 vD.2d, vN.4s, vM.4s                              ",
-    }
-}
-
-// The rows of C, from row 10 on.
-fn row_c(j: usize) -> [u8; 56]
-    requires { ⌜ j < 2 ⌝ }
-    ensures { λ r. ⌜ r ≡ paddedAt (10 + j) ⌝ }
-{
-    match j {
-        0 => *b"sqdmlSlT zD.s, zN.h, zM.h[I]                            ",
-        _ => *b"sqdmlSlT zD.d, zN.s, zM.s[I]                            ",
-    }
-}
-
-// The rows of D and E, from row 12 on.
-fn row_za(j: usize) -> [u8; 56]
-    requires { ⌜ j < 3 ⌝ }
-    ensures { λ r. ⌜ r ≡ paddedAt (12 + j) ⌝ }
-{
-    match j {
-        0 => *b"UmlSll za.s[wR, O:P, vgxG], { zN.b-zK.b }, { zM.b-zL.b }",
-        1 => *b"UmlSll za.d[wR, O:P, vgxG], { zN.h-zK.h }, { zM.h-zL.h }",
-        _ => *b"UmlSl za.s[wR, O:P, vgxG], { zN.h-zK.h }, { zM.h-zL.h } ",
-    }
-}
-
-// The rows of D and E without vgx, from row 15 on.
-fn row_za_short(j: usize) -> [u8; 56]
-    requires { ⌜ j < 3 ⌝ }
-    ensures { λ r. ⌜ r ≡ paddedAt (15 + j) ⌝ }
-{
-    match j {
-        0 => *b"UmlSll za.s[wR, O:P], { zN.b-zK.b }, { zM.b-zL.b }      ",
-        1 => *b"UmlSll za.d[wR, O:P], { zN.h-zK.h }, { zM.h-zL.h }      ",
-        _ => *b"UmlSl za.s[wR, O:P], { zN.h-zK.h }, { zM.h-zL.h }       ",
-    }
-}
+// The rows, with blanks up to the longest, so that they make one table; their lengths stand apart.
+const SYNTAXES: [[u8; 56]; ROWS] = [
+    *b"UmlSl vD.4s, vN.4h, vM.h[I]                             ",
+    *b"UmlSl2 vD.4s, vN.8h, vM.h[I]                            ",
+    *b"UmlSl vD.2d, vN.2s, vM.s[I]                             ",
+    *b"UmlSl2 vD.2d, vN.4s, vM.s[I]                            ",
+    *b"UmlSl vD.8h, vN.8b, vM.8b                               ",
+    *b"UmlSl2 vD.8h, vN.16b, vM.16b                            ",
+    *b"UmlSl vD.4s, vN.4h, vM.4h                               ",
+    *b"UmlSl2 vD.4s, vN.8h, vM.8h                              ",
+    *b"UmlSl vD.2d, vN.2s, vM.2s                               ",
+    *b"UmlSl2 vD.2d, vN.4s, vM.4s                              ",
+    *b"sqdmlSlT zD.s, zN.h, zM.h[I]                            ",
+    *b"sqdmlSlT zD.d, zN.s, zM.s[I]                            ",
+    *b"UmlSll za.s[wR, O:P, vgxG], { zN.b-zK.b }, { zM.b-zL.b }",
+    *b"UmlSll za.d[wR, O:P, vgxG], { zN.h-zK.h }, { zM.h-zL.h }",
+    *b"UmlSl za.s[wR, O:P, vgxG], { zN.h-zK.h }, { zM.h-zL.h } ",
+    *b"UmlSll za.s[wR, O:P], { zN.b-zK.b }, { zM.b-zL.b }      ",
+    *b"UmlSll za.d[wR, O:P], { zN.h-zK.h }, { zM.h-zL.h }      ",
+    *b"UmlSl za.s[wR, O:P], { zN.h-zK.h }, { zM.h-zL.h }       ",
+];
 
 // The row of a number, with blanks behind it.
 fn row_at(k: usize) -> [u8; 56]
     requires { ⌜ k < 18 ⌝ }
     ensures { λ r. ⌜ r ≡ paddedAt k ⌝ }
 {
-    if k < 4 {
-        return row_a(k);
-    }
-    if k < 10 {
-        return row_b(k - 4);
-    }
-    if k < 12 {
-        return row_c(k - 10);
-    }
-    if k < 15 {
-        return row_za(k - 12);
-    }
-    row_za_short(k - 15)
+    SYNTAXES[k]
 }
 
 const LENGTHS: [usize; ROWS] = [
@@ -218,22 +155,10 @@ fn row_of(f: Fields) -> usize
 
 // ---- the values of a word's fields
 
-fn sign_byte(unsigned: bool) -> u8
-    ensures { λ r. ⌜ r ≡ signByte unsigned ⌝ }
+fn either(is: bool, yes: u32, no: u32) -> u32
+    ensures { λ r. ⌜ r ≡ cond is yes no ⌝ }
 {
-    if unsigned { b'u' } else { b's' }
-}
-
-fn add_byte(subtract: bool) -> u8
-    ensures { λ r. ⌜ r ≡ addByte subtract ⌝ }
-{
-    if subtract { b's' } else { b'a' }
-}
-
-fn part_byte(part: u32) -> u8
-    ensures { λ r. ⌜ r ≡ partByte part ⌝ }
-{
-    if part == 0 { b'b' } else { b't' }
+    if is { yes } else { no }
 }
 
 fn last_offset(family: Family, offset: u32) -> u32
@@ -249,37 +174,37 @@ fn last_offset(family: Family, offset: u32) -> u32
     }
 }
 
-// The values of the letters, A to Z.
-fn values_of(f: Fields) -> [u8; 26]
+// The values of the letters, A to Z. The bytes of `a` and `b` are 97 and 98, those of `s`, `t` and `u` 115 to 117.
+fn values_of(f: Fields) -> [u32; 26]
     requires { ⌜ Figures f ⌝ }
     ensures { λ r. ⌜ r ≡ letterValues f ⌝ }
 {
     let family = f.family;
     let p = last_offset(family, f.offset);
-    let s = add_byte(f.subtract);
-    let t = part_byte(f.part);
-    let u = sign_byte(f.unsigned);
+    let s = either(f.subtract, 115, 97);
+    let t = either(f.part == 0, 98, 116);
+    let u = either(f.unsigned, 117, 115);
     let k = f.first + f.group - 1;
     let l = f.second + f.group - 1;
     [
         0,
         0,
         0,
-        f.destination as u8,
+        f.destination,
         0,
         0,
-        f.group as u8,
+        f.group,
         0,
-        f.index as u8,
+        f.index,
         0,
-        k as u8,
-        l as u8,
-        f.second as u8,
-        f.first as u8,
-        f.offset as u8,
-        p as u8,
+        k,
+        l,
+        f.second,
+        f.first,
+        f.offset,
+        p,
         0,
-        f.select as u8,
+        f.select,
         s,
         t,
         u,
@@ -292,12 +217,14 @@ fn values_of(f: Fields) -> [u8; 26]
 }
 
 // The text of a word's fields by a row, at the start of `out`.
-fn put_fields(out: &mut [u8], row: &[u8], f: Fields) -> usize
-    requires { ⌜ (2 * length (now row) ≤ length (now out)) × Figures f ⌝ }
-    ensures { λ r. ⌜ Stands (fill (letterValues f) (now (row .entry))) (now (out .entry)) (now (out .exit)) r ⌝ }
+fn put_fields(out: &mut [u8], k: usize, f: Fields) -> usize
+    requires { ⌜ (k < 18) × (112 ≤ length (now out)) × Figures f ⌝ }
+    ensures { λ r. ⌜ Stands (fill (letterValues f) (syntaxAt k)) (now (out .entry)) (now (out .exit)) r ⌝ }
 {
+    let row = row_at(k);
+    let end = length_at(k);
     let values = values_of(f);
-    syntax::put_row(out, row, &values)
+    syntax::put_row(out, &row[..end], &values)
 }
 
 // A function of its own: of an array that a call returns the prover knows the length, and of one that it sees made it counts the elements.
@@ -309,15 +236,14 @@ fn text_room() -> [u8; OUT]
 
 // ---- print
 
-// The preferred text of a word's fields, by way of the room `out`.
-fn print_fields(room: &mut [u8], f: Fields, out: &mut [u8]) -> Printed
-    requires { ⌜ (112 ≤ length (now out)) × Figures f ⌝ }
+// The preferred text of a word's fields, at the start of the room.
+fn print_fields(room: &mut [u8], f: Fields) -> Printed
+    requires { ⌜ Figures f ⌝ }
     ensures { λ r. ⌜ (printedSays r, now (room .exit)) ≡ putInto (spell false f) (now (room .entry)) ⌝ }
 {
+    let mut out = text_room();
     let k = row_of(f);
-    let row = row_at(k);
-    let end = length_at(k);
-    let n = put_fields(out, &row[..end], f);
+    let n = put_fields(&mut out, k, f);
     if room.len() < n {
         return Printed::Refused(Refusal::ShortRoom);
     }
@@ -325,23 +251,15 @@ fn print_fields(room: &mut [u8], f: Fields, out: &mut [u8]) -> Printed
     Printed::Text(done)
 }
 
-fn print_by(settings: Settings, word: u32, room: &mut [u8], out: &mut [u8]) -> Printed
-    requires { ⌜ 112 ≤ length (now out) ⌝ }
-    ensures { λ r. ⌜ PrintPromise settings word (now (room .entry)) r (now (room .exit)) ⌝ }
-{
-    let decoded = words::decode(settings, word);
-    match decoded {
-        Decoded::Word(f) => print_fields(room, f, out),
-        Decoded::Refused(r) => Printed::Refused(r),
-    }
-}
-
 // The preferred text of a word, at the start of the room. Refusals 1, 3, 12.
 pub fn print(settings: Settings, word: u32, room: &mut [u8]) -> Printed
     ensures { λ r. ⌜ PrintPromise settings word (now (room .entry)) r (now (room .exit)) ⌝ }
 {
-    let mut out = text_room();
-    print_by(settings, word, room, &mut out)
+    let decoded = words::decode(settings, word);
+    match decoded {
+        Decoded::Word(f) => print_fields(room, f),
+        Decoded::Refused(r) => Printed::Refused(r),
+    }
 }
 
 // ---- the fields of a text
@@ -437,9 +355,9 @@ const T: usize = 19;
 const U: usize = 20;
 
 // The fields of a row's number and of its values. The bytes of `s`, `t` and `u` are 115 to 117.
-fn fields_of(k: usize, values: [u32; 26]) -> Fields
+fn fields_of(k: usize, values: &[u32; 26]) -> Fields
     requires { ⌜ k < 18 ⌝ }
-    ensures { λ r. ⌜ r ≡ fieldsBy k values ⌝ }
+    ensures { λ r. ⌜ r ≡ fieldsBy k (now (values .entry)) ⌝ }
 {
     let family = family_at(k);
     let lane = lane_at(k);
@@ -462,105 +380,94 @@ fn fields_of(k: usize, values: [u32; 26]) -> Fields
     }
 }
 
-// ---- read
+// ---- the word of a text
 
-// The word of the fields, if there is one.
-fn word_of(settings: Settings, f: Fields) -> Tried
-    requires { ⌜ validSettings settings ≡ true ⌝ }
-    ensures { λ r. ⌜ WordOf settings f r ⌝ }
+// Below 2 ^ 32 is a word, and from there on there is none.
+const NO_WORD: u64 = 4294967296;
+
+// The word that has exactly these fields.
+fn word_with(f: Fields) -> u64
+    ensures { λ r. ⌜ TheWord (Has f) r ⌝ }
 {
-    let encoded = encoding::encode(settings, f);
-    match encoded {
-        Encoded::Word(w) => Tried::Word(w),
-        Encoded::Refused(r) => {
-            if settings::refusal_number(r) == 3 {
-                return Tried::NotEnabled;
-            }
-            Tried::No
-        }
+    let word = encoding::candidate(f);
+    if encoding::has(word, f) {
+        return word as u64;
     }
+    NO_WORD
 }
 
 // Whether the text is that of a word's fields by the row.
-fn is_theirs(text: &[u8], row: &[u8], f: Fields, out: &mut [u8]) -> bool
-    requires { ⌜ (2 * length (now row) ≤ length (now out)) × Figures f ⌝ }
-    ensures { λ r. ⌜ (r ≡ true → now (text .entry) ≡ fill (letterValues f) (now (row .entry))) × (now (text .entry) ≡ fill (letterValues f) (now (row .entry)) → r ≡ true) ⌝ }
+fn is_theirs(text: &[u8], k: usize, f: Fields) -> bool
+    requires { ⌜ (k < 18) × Figures f ⌝ }
+    ensures { λ r. ⌜ (r ≡ true → now (text .entry) ≡ fill (letterValues f) (syntaxAt k)) × (now (text .entry) ≡ fill (letterValues f) (syntaxAt k) → r ≡ true) ⌝ }
 {
-    let n = put_fields(out, row, f);
+    let mut out = text_room();
+    let n = put_fields(&mut out, k, f);
     check::same(text, &out[..n])
 }
 
-// What the row says of a text that has no other fields by it.
-fn compared(
-    settings: Settings,
-    text: &[u8],
-    row: &[u8],
-    k: usize,
-    f: Fields,
-    out: &mut [u8],
-) -> Tried
-    requires { ⌜ (k < 18) × (2 * length (now row) ≤ length (now out)) × (validSettings settings ≡ true) ⌝ }
-    requires { ⌜ (now row ≡ syntaxAt k) × (f ≡ candidateAt k (now text)) ⌝ }
-    ensures { λ r. ⌜ Tries settings (now (text .entry)) k r ⌝ }
+// The word of a text by a row, by which the text can have no other fields than these.
+fn compared(text: &[u8], k: usize, f: Fields) -> u64
+    requires { ⌜ (k < 18) × (f ≡ candidateAt k (now text)) ⌝ }
+    ensures { λ r. ⌜ TheWord (SpellsBy k (now (text .entry))) r ⌝ }
 {
-    let tried = word_of(settings, f);
-    match tried {
-        Tried::Word(w) => {
-            if is_theirs(text, row, f, out) {
-                return Tried::Word(w);
-            }
-            Tried::No
-        }
-        Tried::NotEnabled => {
-            if is_theirs(text, row, f, out) {
-                return Tried::NotEnabled;
-            }
-            Tried::No
-        }
-        Tried::No => Tried::No,
+    let word = word_with(f);
+    if NO_WORD <= word {
+        return NO_WORD;
     }
+    if is_theirs(text, k, f) {
+        return word;
+    }
+    NO_WORD
 }
 
-// What the row says of the text.
-fn read_as(settings: Settings, text: &[u8], k: usize, out: &mut [u8]) -> Tried
-    requires { ⌜ (k < 18) × (112 ≤ length (now out)) × (validSettings settings ≡ true) ⌝ }
-    ensures { λ r. ⌜ Tries settings (now (text .entry)) k r ⌝ }
+// The word of a text by a row.
+fn word_by(text: &[u8], k: usize) -> u64
+    requires { ⌜ k < 18 ⌝ }
+    ensures { λ r. ⌜ TheWord (SpellsBy k (now (text .entry))) r ⌝ }
 {
     let row = row_at(k);
     let end = length_at(k);
     let mut values = [0u32; 26];
     if !syntax::scan(text, &row[..end], &mut values) {
-        return Tried::No;
+        return NO_WORD;
     }
-    let f = fields_of(k, values);
-    compared(settings, text, &row[..end], k, f, out)
+    let f = fields_of(k, &values);
+    compared(text, k, f)
 }
 
-fn read_by(settings: Settings, text: &[u8], out: &mut [u8]) -> WordRead
-    requires { ⌜ 112 ≤ length (now out) ⌝ }
-    ensures { λ r. ⌜ ReadPromise settings (now (text .entry)) r ⌝ }
+// The word of a text, whatever the settings, or 2 ^ 32.
+pub fn word_of(text: &[u8]) -> u64
+    ensures { λ r. ⌜ TheWord (Spells (now (text .entry))) r ⌝ }
 {
-    if !settings.valid() {
-        return WordRead::Refused(Refusal::BadSettings);
-    }
     let mut k = 0;
     while k < ROWS {
-        let tried = read_as(settings, text, k, out);
-        match tried {
-            Tried::Word(w) => return WordRead::Word(w),
-            Tried::NotEnabled => return WordRead::Refused(Refusal::UnknownWord),
-            Tried::No => {
-                k += 1;
-            }
+        let word = word_by(text, k);
+        if word < NO_WORD {
+            return word;
         }
+        k += 1;
     }
-    WordRead::Refused(Refusal::NotText)
+    NO_WORD
 }
+
+// ---- read
 
 // The word of a text. Refusals 1, 11, 3.
 pub fn read(settings: Settings, text: &[u8]) -> WordRead
     ensures { λ r. ⌜ ReadPromise settings (now (text .entry)) r ⌝ }
 {
-    let mut out = text_room();
-    read_by(settings, text, &mut out)
+    if !settings.valid() {
+        return WordRead::Refused(Refusal::BadSettings);
+    }
+    let word = word_of(text);
+    if NO_WORD <= word {
+        return WordRead::Refused(Refusal::NotText);
+    }
+    let found = word as u32;
+    let decoded = words::decode(settings, found);
+    match decoded {
+        Decoded::Word(_) => WordRead::Word(found),
+        Decoded::Refused(r) => WordRead::Refused(r),
+    }
 }

@@ -12,7 +12,7 @@ use borrow.Author.Tests.{eq-eqb, ne-eqb}
 use Rattle.pieces.specs.Pieces.{decimal, Wrote}
 use Rattle.pieces.proofs.Pieces.{and-then, said, nothing}
 use Rattle.syntax.specs.Syntax.{isNumber, valueIn, says, fill, TwoDigits}
-use Rattle.syntax.specs.Scan.{isLetter, valueOf, passesOf, after, fitsOf, fitsFirst, fits, notedOf, noted, taken}
+use Rattle.syntax.specs.Scan.{saysOf, isLetter, valueOf, passesOf, after, fitsOf, fitsFirst, fits, notedOf, noted, taken}
 use Rattle.syntax.proofs.Laws.{by-test, letter-byte, number-letter, no-letter, one-figure, two-figures}
 
 -- ---- a row is written
@@ -53,21 +53,30 @@ none vs row out = nothing 0 out (omega arith)
 abbrev ValueIn : List ℕ → ℕ → ℕ → Type 0
 ValueIn vs c v = v ≡ cond (isLetter c) (valueIn vs c) c
 
-pub says-byte : (vs : List ℕ) (c v : ℕ) → ValueIn vs c v → isNumber c ≡ false → v ∷ [] ≡ says vs c
-says-byte vs c v e n = by-test (isLetter c) (λ m. rw (e, m, n, letter-byte c m n)) (λ m. rw (e, m, n, no-letter c m .1))
-
 number-in : (vs : List ℕ) (c v : ℕ) → ValueIn vs c v → isNumber c ≡ true → v ≡ valueIn vs c
 number-in vs c v e n = e ∙ rw (number-letter c n)
 
 pub number-small : (vs : List ℕ) (c v : ℕ) → TwoDigits vs → ValueIn vs c v → isNumber c ≡ true → v < 100
 number-small vs c v s e n = omega (arith, number-in vs c v e n, s c n)
 
-pub says-one : (vs : List ℕ) (c v : ℕ) → ValueIn vs c v → isNumber c ≡ true → v < 10 → (48 + v) ∷ [] ≡ says vs c
-says-one vs c v e n h = rw n (one-figure v h ∙ ap decimal (number-in vs c v e n))
+pub says-of : (vs : List ℕ) (c v : ℕ) → ValueIn vs c v → saysOf c v ≡ says vs c
+says-of vs c v e =
+    by-test (isNumber c)
+    (λ n. rw n (ap decimal (number-in vs c v e n)))
+    (λ n. by-test (isLetter c) (λ m. rw (e, m, n, letter-byte c m n)) (λ m. rw (e, m, n, no-letter c m .1)))
 
-pub says-two : (vs : List ℕ) (c v : ℕ) → TwoDigits vs → ValueIn vs c v → isNumber c ≡ true → 10 ≤ v
-    → ((48 + v / 10) ∷ []) ++ ((48 + v % 10) ∷ []) ≡ says vs c
-says-two vs c v s e n h = rw n (two-figures v h (number-small vs c v s e n) ∙ ap decimal (number-in vs c v e n))
+-- ---- a byte of a row is written
+
+pub puts-byte : (c v at : ℕ) (out : List ℕ) → at + 2 ≤ length out → isNumber c ≡ false → Wrote (saysOf c v) at out (set out at v) (at + 1) × (at + 1 ≤ at + 2)
+puts-byte c v at out h n = (said (rw n) (one-byte out at v (omega arith)), omega arith)
+
+pub puts-one : (c v at : ℕ) (out : List ℕ) → at + 2 ≤ length out → isNumber c ≡ true → v < 10
+    → Wrote (saysOf c v) at out (set out at (48 + v)) (at + 1) × (at + 1 ≤ at + 2)
+puts-one c v at out h n l = (said (one-figure v l ∙ rw n) (one-byte out at (48 + v) (omega arith)), omega arith)
+
+pub puts-two : (c v at : ℕ) (out : List ℕ) → at + 2 ≤ length out → isNumber c ≡ true → 10 ≤ v → v < 100
+    → Wrote (saysOf c v) at out (set (set out at (48 + v / 10)) (at + 1) (48 + v % 10)) (at + 2) × (at + 2 ≤ at + 2)
+puts-two c v at out h n l s = (said (two-figures v l s ∙ rw n) (two-bytes out at _ _ h), omega arith)
 
 -- ---- a row is compared, and its values are taken
 

@@ -1,11 +1,16 @@
--- What only the reader's code and the proofs need: the values that a text can have by a row, and the test of a row by which a text of it is read
--- back.
+-- What only the code and the proofs need: what a byte of a row says by its value, the values that a text can have by a row, and the test of a row by
+-- which a text of it is read back.
 use Prim.Native.Nat.{ℕ, _+_, _-_, _*_}
 use mathlib.Core.Bool.{Bool, true, false, not, _&&_, _||_, cond}
 use mathlib.Core.List.{List, [], _∷_}
 use lib.Dec.{eqb, ltb}
 use lib.ListN.{getD, set, drop}
+use Rattle.pieces.specs.Pieces.{decimal}
 use Rattle.syntax.specs.Syntax.{isNumber, isByte}
+
+-- what a byte of a row says, by the value of a letter or the byte itself
+abbrev pub saysOf : ℕ → ℕ → List ℕ
+saysOf c v = cond (isNumber c) (decimal v) (v ∷ [])
 
 abbrev pub isDigit : ℕ → Bool
 isDigit c = ltb 47 c && ltb c 58

@@ -32,3 +32,7 @@ fill vs (c ∷ row) = says vs c ++ fill vs row
 -- no number has more than two digits
 abbrev pub TwoDigits : List ℕ → Type 0
 TwoDigits vs = (c : ℕ) → isNumber c ≡ true → valueIn vs c < 100
+
+-- every value fits a byte
+abbrev pub OneByte : List ℕ → Type 0
+OneByte vs = (c : ℕ) → valueIn vs c < 256

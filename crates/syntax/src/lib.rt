@@ -1,11 +1,11 @@
 // A row of a syntax, written with values and read for them. What a row says is in specs/.
 ghost use mathlib.Core.Path.{_≡_};
 ghost use mathlib.Core.Bool.{true, cond};
-ghost use Prim.Native.Nat.{_*_, _≤_};
+ghost use Prim.Native.Nat.{_+_, _*_, _≤_, _<_};
 ghost use lib.ListN.{length, getD};
 ghost use Rattle.pieces.specs.Pieces.{Wrote};
-ghost use Rattle.syntax.specs.Syntax.{isNumber, valueIn, fill, TwoDigits};
-ghost use Rattle.syntax.specs.Scan.{isDigit, isLetter, valueOf, passesOf, fits, taken};
+ghost use Rattle.syntax.specs.Syntax.{isNumber, valueIn, fill, TwoDigits, OneByte};
+ghost use Rattle.syntax.specs.Scan.{saysOf, isDigit, isLetter, valueOf, passesOf, fits, taken};
 
 fn is_number(c: u8) -> bool
     ensures { λ r. ⌜ r ≡ isNumber c ⌝ }
@@ -28,19 +28,38 @@ fn is_digit(c: u8) -> bool
 // ---- a row is written
 
 // The value of a letter, and any other byte itself.
-fn value_in(values: &[u8; 26], c: u8) -> u8
+fn value_in(values: &[u32; 26], c: u8) -> u8
+    requires { ⌜ OneByte (now values) ⌝ }
     ensures { λ r. ⌜ r ≡ cond (isLetter c) (valueIn (now (values .entry)) c) c ⌝ }
 {
     if !is_letter(c) {
         return c;
     }
     let letter = (c - 65) as usize;
-    values[letter]
+    values[letter] as u8
+}
+
+// What a byte of a row says by its value.
+fn put_said(out: &mut [u8], at: usize, c: u8, v: u8) -> usize
+    requires { ⌜ (at + 2 ≤ length (now out)) × (isNumber c ≡ true → v < 100) ⌝ }
+    ensures { λ r. ⌜ Wrote (saysOf c v) at (now (out .entry)) (now (out .exit)) r × (r ≤ at + 2) ⌝ }
+{
+    if !is_number(c) {
+        out[at] = v;
+        return at + 1;
+    }
+    if v < 10 {
+        out[at] = 48 + v;
+        return at + 1;
+    }
+    out[at] = 48 + v / 10;
+    out[at + 1] = 48 + v % 10;
+    at + 2
 }
 
 // The text of a row, at the start of the room. No byte of a row says more than two.
-pub fn put_row(out: &mut [u8], row: &[u8], values: &[u8; 26]) -> usize
-    requires { ⌜ (2 * length (now row) ≤ length (now out)) × TwoDigits (now values) ⌝ }
+pub fn put_row(out: &mut [u8], row: &[u8], values: &[u32; 26]) -> usize
+    requires { ⌜ (2 * length (now row) ≤ length (now out)) × TwoDigits (now values) × OneByte (now values) ⌝ }
     ensures { λ r. ⌜ Wrote (fill (now (values .entry)) (now (row .entry))) 0 (now (out .entry)) (now (out .exit)) r ⌝ }
 {
     let mut at = 0;
@@ -48,20 +67,8 @@ pub fn put_row(out: &mut [u8], row: &[u8], values: &[u8; 26]) -> usize
     while i < row.len() {
         let c = row[i];
         let v = value_in(values, c);
+        at = put_said(out, at, c, v);
         i += 1;
-        if !is_number(c) {
-            out[at] = v;
-            at += 1;
-            continue;
-        }
-        if v < 10 {
-            out[at] = 48 + v;
-            at += 1;
-            continue;
-        }
-        out[at] = 48 + v / 10;
-        out[at + 1] = 48 + v % 10;
-        at += 2;
     }
     at
 }

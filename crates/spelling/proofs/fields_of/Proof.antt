@@ -12,77 +12,77 @@ use Rattle.spelling.proofs.lane_at.Reads as lane-at-reads
 use Rattle.spelling.proofs.part_at.Reads as part-at-reads
 use Rattle.words.proofs.bit.Reads as bit-reads
 
--- src/lib.rt:453:9
+-- src/lib.rt:362:9
 family-at-requires : tie.Need-family-at-requires
 family-at-requires c κs = search needs
 
--- src/lib.rt:454:9
+-- src/lib.rt:363:9
 lane-at-requires : tie.Need-lane-at-requires
 lane-at-requires c κs = search needs
 
--- src/lib.rt:455:9
+-- src/lib.rt:364:9
 part-at-requires : tie.Need-part-at-requires
 part-at-requires c κs = search needs
 
--- src/lib.rt:456:26
-array-read-bit : tie.Need-array-read-bit
-array-read-bit c = search needs
+-- src/lib.rt:365:26
+element-copy-out-bit : tie.Need-element-copy-out-bit
+element-copy-out-bit c = search needs
 
--- src/lib.rt:456:9
+-- src/lib.rt:365:9
 bit-requires : tie.Need-bit-requires
 bit-requires c κs = search needs
 
--- src/lib.rt:457:26
-array-read-group-of : tie.Need-array-read-group-of
-array-read-group-of c = search needs
+-- src/lib.rt:366:26
+element-copy-out-group-of : tie.Need-element-copy-out-group-of
+element-copy-out-group-of c = search needs
 
--- src/lib.rt:457:37
-array-read-group-of-2 : tie.Need-array-read-group-of-2
-array-read-group-of-2 c = search needs
+-- src/lib.rt:366:37
+element-copy-out-group-of-2 : tie.Need-element-copy-out-group-of-2
+element-copy-out-group-of-2 c = search needs
 
--- src/lib.rt:457:9
+-- src/lib.rt:366:9
 group-of-requires : tie.Need-group-of-requires
 group-of-requires c κs = search needs
 
--- src/lib.rt:460:19
-array-read-t11 : tie.Need-array-read-t11
-array-read-t11 c = search needs
+-- src/lib.rt:369:19
+element-copy-out-t10 : tie.Need-element-copy-out-t10
+element-copy-out-t10 c = search needs
 
--- src/lib.rt:461:19
-array-read-t17 : tie.Need-array-read-t17
-array-read-t17 c = search needs
+-- src/lib.rt:370:19
+element-copy-out-t16 : tie.Need-element-copy-out-t16
+element-copy-out-t16 c = search needs
 
--- src/lib.rt:463:15
-add-t23 : tie.Need-add-t23
-add-t23 c = search needs
+-- src/lib.rt:372:15
+add-t22 : tie.Need-add-t22
+add-t22 c = search needs
 
--- src/lib.rt:464:16
-array-read-t26 : tie.Need-array-read-t26
-array-read-t26 c = search needs
+-- src/lib.rt:373:16
+element-copy-out-t25 : tie.Need-element-copy-out-t25
+element-copy-out-t25 c = search needs
 
--- src/lib.rt:465:22
-array-read-t29 : tie.Need-array-read-t29
-array-read-t29 c = search needs
+-- src/lib.rt:374:22
+element-copy-out-t28 : tie.Need-element-copy-out-t28
+element-copy-out-t28 c = search needs
 
--- src/lib.rt:466:16
-array-read-t32 : tie.Need-array-read-t32
-array-read-t32 c = search needs
+-- src/lib.rt:375:16
+element-copy-out-t31 : tie.Need-element-copy-out-t31
+element-copy-out-t31 c = search needs
 
--- src/lib.rt:467:17
-array-read-t35 : tie.Need-array-read-t35
-array-read-t35 c = search needs
+-- src/lib.rt:376:17
+element-copy-out-t34 : tie.Need-element-copy-out-t34
+element-copy-out-t34 c = search needs
 
--- src/lib.rt:469:17
-array-read-t38 : tie.Need-array-read-t38
-array-read-t38 c = search needs
+-- src/lib.rt:378:17
+element-copy-out-t37 : tie.Need-element-copy-out-t37
+element-copy-out-t37 c = search needs
 
--- src/lib.rt:470:17
-array-read-t41 : tie.Need-array-read-t41
-array-read-t41 c = search needs
+-- src/lib.rt:379:17
+element-copy-out-t40 : tie.Need-element-copy-out-t40
+element-copy-out-t40 c = search needs
 
--- src/lib.rt:449:1
+-- src/lib.rt:358:1
 returns : tie.Need-returns
-returns c = fields-eq _ _ (c .before .before .before .before .family-at .ensures) refl refl (c .before .before .before .lane-at .ensures) (ap₂ (λ (x y : ℕ). x + y) (c .before .before .part-at .ensures .0) (c .before .bit .ensures .0)) refl refl refl refl (c .group-of .ensures) refl refl
+returns c = fields-eq _ _ (c .before .before .before .before .before .before .before .before .before .before .before .before .before .before .before .family-at .ensures) refl refl (c .before .before .before .before .before .before .before .before .before .before .before .before .before .before .lane-at .ensures) (ap₂ (λ (x y : ℕ). x + y) (c .before .before .before .before .before .before .before .before .before .before .before .before .before .part-at .ensures .0) (c .before .before .before .before .before .before .before .before .before .before .before .bit .ensures .0)) refl refl refl refl (c .before .before .before .before .before .before .before .before .group-of .ensures) refl refl
 
 pub fields-of-spec : {M : Type 1} → statement M
 fields-of-spec =
@@ -91,18 +91,18 @@ fields-of-spec =
     family-at-requires
     lane-at-requires
     part-at-requires
-    array-read-bit
+    element-copy-out-bit
     bit-requires
-    array-read-group-of
-    array-read-group-of-2
+    element-copy-out-group-of
+    element-copy-out-group-of-2
     group-of-requires
-    array-read-t11
-    array-read-t17
-    add-t23
-    array-read-t26
-    array-read-t29
-    array-read-t32
-    array-read-t35
-    array-read-t38
-    array-read-t41
+    element-copy-out-t10
+    element-copy-out-t16
+    add-t22
+    element-copy-out-t25
+    element-copy-out-t28
+    element-copy-out-t31
+    element-copy-out-t34
+    element-copy-out-t37
+    element-copy-out-t40
     returns)

@@ -1,0 +1,29 @@
+-- Only contracts and proofs use this: what is known of fields, of a row, or of a number that is a word or none.
+use Prim.Native.Nat.{ℕ, _+_, _<_, _≤_, _^_}
+use mathlib.Core.Path.{_≡_}
+use mathlib.Core.List.{List}
+use Rattle.words.specs.declared.Fields.{Fields}
+use Rattle.spelling.specs.Spell.{rowFor, lastOffset}
+use Rattle.spelling.specs.Language.{Spells}
+
+-- the numbers of a word's fields, as its text needs them
+pub record Figures (f : Fields) : Type 0 where
+  pub destination : f .destination < 32
+  pub index : f .index < 8
+  pub some : 0 < f .group
+  pub group : f .group < 5
+  pub first : f .first + f .group ≤ 32
+  pub second : f .second + f .group ≤ 32
+  pub select : f .select < 12
+  pub offset : f .offset < 8
+  pub last : lastOffset (f .family) (f .offset) < 8
+
+-- the text is that of the word by the row
+pub record SpellsBy (k : ℕ) (t : List ℕ) (w : ℕ) : Type 0 where
+  pub spells : Spells t w
+  pub row : rowFor (spells .short) (spells .fields) ≡ k
+
+-- a word that has P, or 2 ^ 32 where no word has
+pub record TheWord (P : ℕ → Type 0) (r : ℕ) : Type 0 where
+  pub found : r < 2 ^ 32 → P r
+  pub none : 2 ^ 32 ≤ r → (w : ℕ) → P w → ⊥
