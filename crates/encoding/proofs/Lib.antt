@@ -1,4 +1,5 @@
 pub mod Only
 pub mod Equal
+pub mod Found
 pub mod Own
 pub mod Theorems

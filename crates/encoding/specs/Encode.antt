@@ -1,5 +1,5 @@
 -- Document 01, "Refusal numbers": what encode answers, said by what words say and by nothing else.
-use Prim.Native.Nat.{ℕ, _<_, _^_}
+use Prim.Native.Nat.{ℕ, _<_, _≤_, _^_}
 use mathlib.Core.Path.{_≡_}
 use mathlib.Core.Bool.{true, false}
 use Rattle.settings.specs.Valid.{validSettings}
@@ -27,3 +27,8 @@ pub data Encodes (s : Settings) (f : Fields) : ℕ × ℕ → Type 0 where
   no-word : validSettings s ≡ true → ((w : ℕ) → Has f w → ⊥) → Encodes s f (5, 0)
   not-enabled : validSettings s ≡ true → (w : ℕ) → Has f w → enables (s .features .0) f ≡ false → Encodes s f (3, 0)
   a-word : validSettings s ≡ true → (w : ℕ) → Has f w → enables (s .features .0) f ≡ true → Encodes s f (0, w)
+
+-- only contracts use this, one number for a word or for none: a word that has P, or 2 ^ 32 where no word has
+pub record TheWord (P : ℕ → Type 0) (r : ℕ) : Type 0 where
+  pub found : r < 2 ^ 32 → P r
+  pub none : 2 ^ 32 ≤ r → (w : ℕ) → P w → ⊥

@@ -3,7 +3,7 @@ ghost use Prim.Native.Nat.{_<_};
 ghost use Rattle.layouts.specs.Layout.{build};
 ghost use Rattle.words.specs.Rows.{rowA, rowB, rowC16, rowC32, rowD2, rowD4, rowE2, rowE4};
 ghost use Rattle.words.specs.Says.{describe};
-ghost use Rattle.encoding.specs.Encode.{Encodes, encodedSays};
+ghost use Rattle.encoding.specs.Encode.{Has, Encodes, encodedSays, TheWord};
 ghost use Rattle.encoding.specs.Candidate.{valuesA, valuesA16, valuesA32, valuesB, lowC, valuesC, valuesC16, valuesC32, lowZa2, lowZa4, valuesZa, valuesD, valuesE, candidateOf, sameFamily, sameOf, saysOnly};
 use layouts::*;
 use settings::Refusal;
@@ -147,7 +147,7 @@ fn word_e4(f: Fields) -> u32
 }
 
 // The only word that can have the fields.
-pub fn candidate(f: Fields) -> u32
+fn candidate(f: Fields) -> u32
     ensures { λ r. ⌜ r ≡ candidateOf f ⌝ }
 {
     let family = f.family;
@@ -199,7 +199,7 @@ fn same(f: Fields, g: Fields) -> bool
 
 // Whether the candidate has exactly these fields. Only the row that it was built by is asked: no word has two. B's fields are
 // read with the lane that is asked for, so that lanes which no word of B has are turned away before.
-pub fn has(word: u32, f: Fields) -> bool
+fn has(word: u32, f: Fields) -> bool
     requires { ⌜ word ≡ candidateOf f ⌝ }
     ensures { λ r. ⌜ r ≡ saysOnly f (describe word) ⌝ }
 {
@@ -243,16 +243,30 @@ pub fn has(word: u32, f: Fields) -> bool
     }
 }
 
+// Below 2 ^ 32 is a word, and from there on there is none.
+const NO_WORD: u64 = 4294967296;
+
+// The word that has exactly these fields, whatever the settings.
+pub fn word_with(f: Fields) -> u64
+    ensures { λ r. ⌜ TheWord (Has f) r ⌝ }
+{
+    let word = candidate(f);
+    if has(word, f) {
+        return word as u64;
+    }
+    NO_WORD
+}
+
 // The word that has exactly these fields. Refusals 1, 5, 3.
 pub fn encode(settings: Settings, fields: Fields) -> Encoded
     ensures { λ r. ⌜ Encodes settings fields (encodedSays r) ⌝ }
 {
     if settings.valid() {
-        let word = candidate(fields);
-        if has(word, fields) {
+        let word = word_with(fields);
+        if word < NO_WORD {
             let features = settings.features;
             if words::enables(features, fields) {
-                return Encoded::Word(word);
+                return Encoded::Word(word as u32);
             }
             return Encoded::Refused(Refusal::UnknownWord);
         }

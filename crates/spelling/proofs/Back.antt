@@ -27,7 +27,7 @@ use Rattle.words.proofs.Ranges.{by-size}
 use Rattle.spelling.specs.Rows.{syntaxes, nth, syntaxAt}
 use Rattle.spelling.specs.Spell.{byteOf, lastOffset, signByte, addByte, partByte, letters, letterValues, rowFor, spell}
 use Rattle.spelling.specs.Candidate.{valueNamed, groupOf, fieldsBy, candidateAt}
-use Rattle.spelling.specs.Found.{Figures}
+use Rattle.spelling.specs.Tried.{Figures}
 use Rattle.spelling.proofs.Arms.{each-front, each-all}
 
 -- ---- the rows pass their test

@@ -19,7 +19,7 @@ use Rattle.spelling.specs.Rows.{syntaxAt}
 use Rattle.spelling.specs.Spell.{byteOf, letterValues, rowFor, spell, longestText}
 use Rattle.spelling.specs.Language.{Spells}
 use Rattle.spelling.specs.Theorems.{NoLonger, OneAsLong}
-use Rattle.spelling.specs.Found.{Figures}
+use Rattle.spelling.specs.Tried.{Figures}
 use Rattle.spelling.proofs.Arms.{below, each-below}
 use Rattle.spelling.proofs.Back.{figures}
 use Rattle.spelling.proofs.Reading.{row-below}

@@ -1,5 +1,5 @@
 -- What a row that is tried says of a text, and what a word that was found is by the settings. Assumes nothing.
-use Prim.Native.Nat.{ℕ, _+_, _<_, _≤_, _^_}
+use Prim.Native.Nat.{ℕ, _+_, _<_, _≤_}
 use native.Mathlib.Omega.{arith}
 use mathlib.Core.Path.{_≡_, refl, sym, ap, _∙_}
 use mathlib.Core.Bool.{Bool, true, false, cond}
@@ -22,17 +22,9 @@ use Rattle.spelling.specs.Rows.{syntaxAt}
 use Rattle.spelling.specs.Spell.{letterValues, rowFor, rowBy, spell}
 use Rattle.spelling.specs.Candidate.{candidateAt}
 use Rattle.spelling.specs.Language.{Spells, Reads, not-enabled, a-word}
-use Rattle.spelling.specs.Found.{SpellsBy, TheWord}
+use Rattle.spelling.specs.Tried.{SpellsBy}
 use Rattle.spelling.proofs.Arms.{each-below}
 use Rattle.spelling.proofs.Back.{clear-at, figures, two-digits, read-back}
-
--- ---- a number that is a word, or none
-
-pub is-word : {P : ℕ → Type 0} (r : ℕ) → r < 2 ^ 32 → P r → TheWord P r
-is-word r h p = record { found = λ _. p; none = λ (g : 2 ^ 32 ≤ r). absurd (omega arith) }
-
-pub is-none : {P : ℕ → Type 0} → ((w : ℕ) → P w → ⊥) → TheWord P (2 ^ 32)
-is-none n = record { found = λ (h : 2 ^ 32 < 2 ^ 32). absurd (omega arith); none = λ _. n }
 
 -- ---- the row of a candidate is the row that it was read by
 

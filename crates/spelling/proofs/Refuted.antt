@@ -21,7 +21,7 @@ use Rattle.spelling.specs.Spell.{letterValues, rowFor}
 use Rattle.spelling.specs.Language.{Spells}
 use Rattle.spelling.specs.Examples.{notTexts, NotOfLanguage}
 use Rattle.spelling.specs.Candidate.{candidateAt}
-use Rattle.spelling.specs.Found.{SpellsBy}
+use Rattle.spelling.specs.Tried.{SpellsBy}
 use Rattle.spelling.proofs.Reading.{row-below, spelled-text, no-word-of, fits-not-row}
 
 abbrev same : List ℕ → List ℕ → Bool

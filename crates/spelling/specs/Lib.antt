@@ -4,5 +4,5 @@ pub mod Print
 pub mod Language
 pub mod Theorems
 pub mod Candidate
-pub mod Found
+pub mod Tried
 pub mod Examples

@@ -6,13 +6,13 @@ ghost use Prim.Native.Nat.{_≤_, _<_};
 ghost use lib.ListN.{length, getD};
 ghost use Rattle.pieces.specs.Pieces.{Stands};
 ghost use Rattle.syntax.specs.Syntax.{fill};
-ghost use Rattle.encoding.specs.Encode.{Has};
+ghost use Rattle.encoding.specs.Encode.{TheWord};
 ghost use Rattle.spelling.specs.Rows.{syntaxAt};
 ghost use Rattle.spelling.specs.Spell.{lastOffset, letterValues, byPart, rowFor, spell, longestText};
 ghost use Rattle.spelling.specs.Print.{printedSays, putInto, PrintPromise};
 ghost use Rattle.spelling.specs.Language.{Spells, ReadPromise};
 ghost use Rattle.spelling.specs.Candidate.{paddedAt, familyAt, rowLanes, rowParts, fieldsBy, candidateAt, groupOf};
-ghost use Rattle.spelling.specs.Found.{Figures, SpellsBy, TheWord};
+ghost use Rattle.spelling.specs.Tried.{Figures, SpellsBy};
 use settings::Refusal;
 use settings::Settings;
 use words::Decoded;
@@ -385,17 +385,6 @@ fn fields_of(k: usize, values: &[u32; 26]) -> Fields
 // Below 2 ^ 32 is a word, and from there on there is none.
 const NO_WORD: u64 = 4294967296;
 
-// The word that has exactly these fields.
-fn word_with(f: Fields) -> u64
-    ensures { λ r. ⌜ TheWord (Has f) r ⌝ }
-{
-    let word = encoding::candidate(f);
-    if encoding::has(word, f) {
-        return word as u64;
-    }
-    NO_WORD
-}
-
 // Whether the text is that of a word's fields by the row.
 fn is_theirs(text: &[u8], k: usize, f: Fields) -> bool
     requires { ⌜ (k < 18) × Figures f ⌝ }
@@ -411,7 +400,7 @@ fn compared(text: &[u8], k: usize, f: Fields) -> u64
     requires { ⌜ (k < 18) × (f ≡ candidateAt k (now text)) ⌝ }
     ensures { λ r. ⌜ TheWord (SpellsBy k (now (text .entry))) r ⌝ }
 {
-    let word = word_with(f);
+    let word = encoding::word_with(f);
     if NO_WORD <= word {
         return NO_WORD;
     }

@@ -2,14 +2,15 @@ use Prim.Native.Nat.{_<_, _^_}
 use native.Mathlib.Omega.{arith}
 use Rattle.laws.proofs.Tests.{never-both}
 use Rattle.spelling.proofs.Back.{figures}
-use Rattle.spelling.proofs.Reading.{is-word, is-none, no-word-of, candidate-spells, other-text}
+use Rattle.encoding.proofs.Found.{is-word, is-none}
+use Rattle.spelling.proofs.Reading.{no-word-of, candidate-spells, other-text}
 use borrow.Author.Needs.{needs}
 use Rattle.spelling.proofs.compared.Statement.{statement}
 use Rattle.spelling.proofs.compared.Tie as tie
 use Rattle.spelling.proofs.compared.Reads as reads
 use Rattle.spelling.proofs.compared.Lts as lts
 use Rattle.spelling.proofs.is_theirs.Reads as is-theirs-reads
-use Rattle.spelling.proofs.word_with.Reads as word-with-reads
+use Rattle.encoding.proofs.word_with.Reads as word-with-reads
 
 -- src/lib.rt:414:9
 word-with-requires : tie.Need-word-with-requires

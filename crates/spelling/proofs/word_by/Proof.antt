@@ -6,7 +6,8 @@ use Rattle.syntax.specs.Scan.{taken}
 use Rattle.spelling.specs.Spell.{letters}
 use Rattle.spelling.specs.Candidate.{fieldsBy, candidateAt}
 use Rattle.spelling.proofs.Padded.{front, front-counted}
-use Rattle.spelling.proofs.Reading.{is-none, fits-not-row}
+use Rattle.encoding.proofs.Found.{is-none}
+use Rattle.spelling.proofs.Reading.{fits-not-row}
 use borrow.Author.Needs.{needs}
 use Rattle.spelling.proofs.word_by.Statement.{statement}
 use Rattle.spelling.proofs.word_by.Tie as tie

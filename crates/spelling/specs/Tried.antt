@@ -1,5 +1,5 @@
--- Only contracts and proofs use this: what is known of fields, of a row, or of a number that is a word or none.
-use Prim.Native.Nat.{ℕ, _+_, _<_, _≤_, _^_}
+-- Only contracts and proofs use this: what is known of a word's fields, and of a text when a row has been tried.
+use Prim.Native.Nat.{ℕ, _+_, _<_, _≤_}
 use mathlib.Core.Path.{_≡_}
 use mathlib.Core.List.{List}
 use Rattle.words.specs.declared.Fields.{Fields}
@@ -22,8 +22,3 @@ pub record Figures (f : Fields) : Type 0 where
 pub record SpellsBy (k : ℕ) (t : List ℕ) (w : ℕ) : Type 0 where
   pub spells : Spells t w
   pub row : rowFor (spells .short) (spells .fields) ≡ k
-
--- a word that has P, or 2 ^ 32 where no word has
-pub record TheWord (P : ℕ → Type 0) (r : ℕ) : Type 0 where
-  pub found : r < 2 ^ 32 → P r
-  pub none : 2 ^ 32 ≤ r → (w : ℕ) → P w → ⊥
