@@ -4,12 +4,12 @@ use Prim.Native.String.{String}
 use native.Mathlib.Omega.{arith}
 use mathlib.Core.Path.{_≡_, refl, sym, ap, _∙_}
 use mathlib.Core.List.{List, [], _∷_, map}
-use lib.ListN.{length, getD, take, replicate}
+use lib.ListN.{length, getD, take, replicate, length-append}
 use lib.Seq.{take-at}
 use Rattle.pieces.specs.Pieces.{text}
 use Rattle.spelling.specs.Rows.{syntaxes, nth, syntaxAt}
 use Rattle.spelling.specs.Spell.{byteOf}
-use Rattle.spelling.specs.Candidate.{padded, paddedAt}
+use Rattle.spelling.specs.Candidate.{padded, paddedRows, paddedAt}
 use Rattle.spelling.proofs.Arms.{each-below}
 
 -- the table of the rows with blanks has each at its number
@@ -18,15 +18,19 @@ row-of-table [] k d h = absurd (omega arith)
 row-of-table (s ∷ ss) zero d h = refl
 row-of-table (s ∷ ss) (suc k) d h = row-of-table ss k d (omega arith)
 
-pub rows-are : (k : ℕ) (d : List ℕ) → k < 18 → getD (map (λ (s : String). padded (text s)) syntaxes) k d ≡ paddedAt k
-unfolding paddedAt syntaxAt
-rows-are k d h = row-of-table syntaxes k d h
+pub row-is : (k : ℕ) (d : List ℕ) (rows : List (List ℕ)) → k < 18 → rows ≡ paddedRows → getD rows k d ≡ paddedAt k
+unfolding paddedRows paddedAt syntaxAt
+row-is k d rows h e = ap (λ (l : List (List ℕ)). getD l k d) e ∙ row-of-table syntaxes k d h
 
 pub front : (k n : ℕ) (row : List ℕ) → row ≡ paddedAt k → n ≡ length (syntaxAt k) → take n row ≡ syntaxAt k
 unfolding paddedAt
 front k n row e h = ap (take n) e ∙ take-at (syntaxAt k) (replicate (56 - length (syntaxAt k)) (byteOf " ")) n (sym h)
 
 -- what `&row[..n]` asks for
+pub front-inside : (k n : ℕ) (row : List ℕ) → row ≡ paddedAt k → n ≡ length (syntaxAt k) → n ≤ length row
+unfolding paddedAt
+front-inside k n row e h = omega (arith, h, ap length e ∙ length-append (syntaxAt k) (replicate (56 - length (syntaxAt k)) (byteOf " ")))
+
 pub front-counted : (k n : ℕ) (row : List ℕ) → row ≡ paddedAt k → n ≡ length (syntaxAt k) → n ≡ length (take n row)
 front-counted k n row e h = h ∙ ap length (sym (front k n row e h))
 

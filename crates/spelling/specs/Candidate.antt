@@ -2,21 +2,25 @@
 use Prim.Native.Nat.{ℕ, _+_, _-_}
 use Prim.Native.String.{String}
 use mathlib.Core.Bool.{_||_, cond}
-use mathlib.Core.List.{List, [], _∷_, _++_}
+use mathlib.Core.List.{List, [], _∷_, _++_, map}
 use lib.Dec.{eqb, ltb}
 use lib.ListN.{length, getD, replicate}
+use Rattle.pieces.specs.Pieces.{text}
 use Rattle.syntax.specs.Syntax.{valueIn}
 use Rattle.syntax.specs.Scan.{taken}
 use Rattle.words.specs.Numbers.{bitOf}
 use Rattle.words.specs.declared.Family.{Family}
 use Rattle.words.specs.declared.Family.the-variants.{ByElement, Vector, Saturating, LongLong, Long}
 use Rattle.words.specs.declared.Fields.{Fields}
-use Rattle.spelling.specs.Rows.{syntaxAt}
+use Rattle.spelling.specs.Rows.{syntaxes, syntaxAt}
 use Rattle.spelling.specs.Spell.{byteOf, letters}
 
 -- a row with blanks up to 56 bytes
 abbrev pub padded : List ℕ → List ℕ
 padded row = row ++ replicate (56 - length row) (byteOf " ")
+
+unfoldable pub paddedRows : List (List ℕ)
+paddedRows = map (λ (s : String). padded (text s)) syntaxes
 
 unfoldable pub paddedAt : ℕ → List ℕ
 paddedAt k = padded (syntaxAt k)

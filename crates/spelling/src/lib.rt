@@ -11,7 +11,7 @@ ghost use Rattle.spelling.specs.Rows.{syntaxAt};
 ghost use Rattle.spelling.specs.Spell.{lastOffset, letterValues, byPart, rowFor, spell, longestText};
 ghost use Rattle.spelling.specs.Print.{printedSays, putInto, PrintPromise};
 ghost use Rattle.spelling.specs.Language.{Spells, ReadPromise};
-ghost use Rattle.spelling.specs.Candidate.{paddedAt, familyAt, rowLanes, rowParts, fieldsBy, candidateAt, groupOf};
+ghost use Rattle.spelling.specs.Candidate.{paddedRows, paddedAt, familyAt, rowLanes, rowParts, fieldsBy, candidateAt, groupOf};
 ghost use Rattle.spelling.specs.Tried.{Figures, SpellsBy};
 use settings::Refusal;
 use settings::Settings;
@@ -67,15 +67,23 @@ const SYNTAXES: [[u8; 56]; ROWS] = [
     *b"UmlSl za.s[wR, O:P], { zN.h-zK.h }, { zM.h-zL.h }       ",
 ];
 
+// The table, for whoever asks for row after row: the compiler makes it anew in each function that names the constant.
+fn rows() -> [[u8; 56]; ROWS]
+    ensures { λ r. ⌜ r ≡ paddedRows ⌝ }
+{
+    SYNTAXES
+}
+
 // The row of a number, with blanks behind it.
 fn row_at(k: usize) -> [u8; 56]
     requires { ⌜ k < 18 ⌝ }
     ensures { λ r. ⌜ r ≡ paddedAt k ⌝ }
 {
-    SYNTAXES[k]
+    let all = rows();
+    all[k]
 }
 
-const LENGTHS: [usize; ROWS] = [
+const LENGTHS: [u8; ROWS] = [
     27,
     28,
     27,
@@ -101,7 +109,7 @@ fn length_at(k: usize) -> usize
     requires { ⌜ k < 18 ⌝ }
     ensures { λ r. ⌜ (r ≡ length (syntaxAt k)) × (r ≤ 56) ⌝ }
 {
-    LENGTHS[k]
+    LENGTHS[k] as usize
 }
 
 fn by_part(part: u32, q0: usize, q1: usize) -> usize
@@ -410,12 +418,12 @@ fn compared(text: &[u8], k: usize, f: Fields) -> u64
     NO_WORD
 }
 
-// The word of a text by a row.
-fn word_by(text: &[u8], k: usize) -> u64
-    requires { ⌜ k < 18 ⌝ }
+// The word of a text by a row of the table.
+fn word_by(text: &[u8], all: &[[u8; 56]; ROWS], k: usize) -> u64
+    requires { ⌜ (k < 18) × (now all ≡ paddedRows) ⌝ }
     ensures { λ r. ⌜ TheWord (SpellsBy k (now (text .entry))) r ⌝ }
 {
-    let row = row_at(k);
+    let row = all[k];
     let end = length_at(k);
     let mut values = [0u32; 26];
     if !syntax::scan(text, &row[..end], &mut values) {
@@ -429,9 +437,10 @@ fn word_by(text: &[u8], k: usize) -> u64
 pub fn word_of(text: &[u8]) -> u64
     ensures { λ r. ⌜ TheWord (Spells (now (text .entry))) r ⌝ }
 {
+    let all = rows();
     let mut k = 0;
     while k < ROWS {
-        let word = word_by(text, k);
+        let word = word_by(text, &all, k);
         if word < NO_WORD {
             return word;
         }

@@ -1,3 +1,4 @@
+use native.Mathlib.Omega.{arith}
 use Rattle.spelling.proofs.Padded.{lengths-are, lengths-few}
 use borrow.Author.Needs.{needs}
 use Rattle.spelling.proofs.length_at.Statement.{statement}
@@ -5,17 +6,17 @@ use Rattle.spelling.proofs.length_at.Tie as tie
 use Rattle.spelling.proofs.length_at.Reads as reads
 use Rattle.spelling.proofs.length_at.Lts as lts
 
--- src/lib.rt:149:5
-mul-result : tie.Need-mul-result
-mul-result c = search needs
-
--- src/lib.rt:149:5
+-- src/lib.rt:93:5
 array-read-result : tie.Need-array-read-result
 array-read-result c = search needs
 
--- src/lib.rt:145:1
+-- src/lib.rt:93:5
+cast-result : tie.Need-cast-result
+cast-result c = record { fits = omega (arith, lengths-few (c .args .k) (c .pre)) }
+
+-- src/lib.rt:89:1
 returns : tie.Need-returns
 returns c = (lengths-are (c .args .k) (c .pre), lengths-few (c .args .k) (c .pre))
 
 pub length-at-spec : {M : Type 1} → statement M
-length-at-spec = tie.close (tie.spec mul-result array-read-result returns)
+length-at-spec = tie.close (tie.spec array-read-result cast-result returns)
