@@ -30,5 +30,6 @@ pub data Encodes (s : Settings) (f : Fields) : ℕ × ℕ → Type 0 where
 
 -- only contracts use this, one number for a word or for none: a word that has P, or 2 ^ 32 where no word has
 pub record TheWord (P : ℕ → Type 0) (r : ℕ) : Type 0 where
+  pub most : r ≤ 2 ^ 32
   pub found : r < 2 ^ 32 → P r
   pub none : 2 ^ 32 ≤ r → (w : ℕ) → P w → ⊥

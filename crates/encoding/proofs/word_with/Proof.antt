@@ -1,3 +1,4 @@
+-- `encoding::word_with` meets its contract. Assumes nothing.
 use Prim.Native.Nat.{_<_, _^_}
 use mathlib.Core.Path.{sym, _∙_}
 use Rattle.encoding.proofs.Equal.{passes-has, fails-none}
@@ -5,29 +6,20 @@ use Rattle.encoding.proofs.Found.{is-word, is-none}
 use borrow.Author.Needs.{needs}
 use Rattle.encoding.proofs.word_with.Statement.{statement}
 use Rattle.encoding.proofs.word_with.Tie as tie
-use Rattle.encoding.proofs.word_with.Reads as reads
-use Rattle.encoding.proofs.word_with.Lts as lts
-use Rattle.encoding.proofs.candidate.Reads as candidate-reads
-use Rattle.encoding.proofs.has.Reads as has-reads
 
--- src/lib.rt:253:9
 candidate-requires : tie.Need-candidate-requires
 candidate-requires c κs = search needs
 
--- src/lib.rt:254:8
 has-requires : tie.Need-has-requires
 has-requires c κs = search needs
 
--- src/lib.rt:255:16
 cast-result : tie.Need-cast-result
 cast-result c = search needs
 
--- src/lib.rt:255:9
 returns : tie.Need-returns
 returns c = let h : c .before .before .candidate .result < 2 ^ 32 = search needs in
     is-word _ h (passes-has _ _ h (sym (c .before .has .ensures) ∙ c .if1 .taken))
 
--- src/lib.rt:250:1
 returns-2 : tie.Need-returns-2
 returns-2 c = is-none (fails-none _ (rw (← c .before .before .candidate .ensures, ← c .before .has .ensures) (c .if1 .left)))
 

@@ -1,43 +1,31 @@
+-- `spell::put_answer` meets its contract. Assumes nothing.
 use Rattle.spell.proofs.Digits.{says-word}
 use Rattle.spell.proofs.Ends.{word-answered}
 use borrow.Author.Needs.{needs}
 use Rattle.spell.proofs.put_answer.Statement.{statement}
 use Rattle.spell.proofs.put_answer.Tie as tie
-use Rattle.spell.proofs.put_answer.Reads as reads
-use Rattle.spell.proofs.put_answer.Lts as lts
-use Rattle.spell.proofs.put_text_of.Reads as put-text-of-reads
-use Rattle.spell.proofs.put_word_of.Reads as put-word-of-reads
-use Rattle.spell.proofs.word_in.Reads as word-in-reads
 
--- src/main.rt:117:9
 word-in-requires : tie.Need-word-in-requires
 word-in-requires c κs = search needs
 
--- src/main.rt:119:33
 cast-put-text-of : tie.Need-cast-put-text-of
 cast-put-text-of c = search needs
 
--- src/main.rt:119:9
 put-text-of-requires : tie.Need-put-text-of-requires
 put-text-of-requires c κs = search needs
 
--- src/main.rt:119:9
 same-length : tie.Need-same-length
 same-length c = search needs
 
--- src/main.rt:119:9
 returns : tie.Need-returns
 returns c = word-answered _ _ _ _ _ (c .before .before .before .before .before .word-in .ensures) (c .before .before .before .before .if1 .taken) (c .before .before .put-text-of .ensures)
 
--- src/main.rt:121:5
 put-word-of-requires : tie.Need-put-word-of-requires
 put-word-of-requires c κs = search needs
 
--- src/main.rt:112:1
 same-length-2 : tie.Need-same-length-2
 same-length-2 c = search needs
 
--- src/main.rt:112:1
 returns-2 : tie.Need-returns-2
 returns-2 c = (c .before .before .put-word-of .ensures .0 (says-word _ _ (c .before .before .before .before .before .word-in .ensures) .1 (c .before .before .before .before .if1 .left)), c .before .before .put-word-of .ensures .1)
 

@@ -1,20 +1,16 @@
+-- `spelling::length_at` meets its contract. Assumes nothing.
 use native.Mathlib.Omega.{arith}
 use Rattle.spelling.proofs.Padded.{lengths-are, lengths-few}
 use borrow.Author.Needs.{needs}
 use Rattle.spelling.proofs.length_at.Statement.{statement}
 use Rattle.spelling.proofs.length_at.Tie as tie
-use Rattle.spelling.proofs.length_at.Reads as reads
-use Rattle.spelling.proofs.length_at.Lts as lts
 
--- src/lib.rt:93:5
 array-read-result : tie.Need-array-read-result
 array-read-result c = search needs
 
--- src/lib.rt:93:5
 cast-result : tie.Need-cast-result
 cast-result c = record { fits = omega (arith, lengths-few (c .args .k) (c .pre)) }
 
--- src/lib.rt:89:1
 returns : tie.Need-returns
 returns c = (lengths-are (c .args .k) (c .pre), lengths-few (c .args .k) (c .pre))
 

@@ -1,3 +1,4 @@
+-- `spelling::print` meets its contract. Assumes nothing.
 use mathlib.Core.Path.{sym, ap, _∙_}
 use Rattle.settings.proofs.Refusals.{not-0}
 use Rattle.words.specs.Decode.{decodedSays}
@@ -7,36 +8,25 @@ use Rattle.spelling.proofs.Putting.{print-word, print-refused}
 use borrow.Author.Needs.{needs}
 use Rattle.spelling.proofs.print.Statement.{statement}
 use Rattle.spelling.proofs.print.Tie as tie
-use Rattle.spelling.proofs.print.Reads as reads
-use Rattle.spelling.proofs.print.Lts as lts
-use Rattle.spelling.proofs.print_fields.Reads as print-fields-reads
-use Rattle.words.proofs.decode.Reads as decode-reads
 
--- src/lib.rt:258:9
 decode-requires : tie.Need-decode-requires
 decode-requires c κs = search needs
 
--- src/lib.rt:260:23
 enum-known-decoded : tie.Need-enum-known-decoded
 enum-known-decoded c = search needs
 
--- src/lib.rt:260:29
 print-fields-requires : tie.Need-print-fields-requires
 print-fields-requires c κs = figures (c .before .before .before .before .before .before .args .word) _ (decodes-exactly (c .before .before .before .before .before .before .args .settings) (c .before .before .before .before .before .before .args .word) _ .0 (sym (c .before .before .before .before .decode .ensures) ∙ ap decodedSays (c .before .before .decoded .given .1)) .says)
 
--- src/lib.rt:261:26
 enum-known-decoded-2 : tie.Need-enum-known-decoded-2
 enum-known-decoded-2 c = search needs
 
--- src/lib.rt:255:1
 same-length : tie.Need-same-length
 same-length c = search needs
 
--- src/lib.rt:255:1
 returns : tie.Need-returns
 returns c = c .before .before .print-fields .ensures ∙ sym (print-word (c .before .before .before .before .before .before .before .before .before .args .settings) (c .before .before .before .before .before .before .before .before .before .args .word) _ (c .before .before .before .before .before .before .before .before .before .args .room .now) (sym (c .before .before .before .before .before .before .before .decode .ensures) ∙ ap decodedSays (c .before .before .before .before .before .decoded .given .1)))
 
--- src/lib.rt:255:1
 returns-2 : tie.Need-returns-2
 returns-2 c = sym (print-refused (c .before .before .before .before .before .args .settings) (c .before .before .before .before .before .args .word) _ _ (c .before .before .before .before .before .args .room .now) (not-0 (c .before .decoded2 .given .0 .0)) (sym (c .before .before .before .decode .ensures) ∙ ap decodedSays (c .before .decoded2 .given .1)))
 

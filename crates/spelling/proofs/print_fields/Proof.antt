@@ -1,51 +1,36 @@
+-- `spelling::print_fields` meets its contract. Assumes nothing.
 use Rattle.spelling.proofs.Putting.{spelled, no-room, has-room}
 use borrow.Author.Needs.{needs}
 use Rattle.spelling.proofs.print_fields.Statement.{statement}
 use Rattle.spelling.proofs.print_fields.Tie as tie
-use Rattle.spelling.proofs.print_fields.Reads as reads
-use Rattle.spelling.proofs.print_fields.Lts as lts
-use Rattle.pieces.proofs.put_text.Reads as put-text-reads
-use Rattle.spelling.proofs.put_fields.Reads as put-fields-reads
-use Rattle.spelling.proofs.row_of.Reads as row-of-reads
-use Rattle.spelling.proofs.text_room.Reads as text-room-reads
 
--- src/lib.rt:244:19
 text-room-requires : tie.Need-text-room-requires
 text-room-requires c κs = search needs
 
--- src/lib.rt:245:9
 row-of-requires : tie.Need-row-of-requires
 row-of-requires c κs = search needs
 
--- src/lib.rt:246:24
 slice-aggregate-put-fields : tie.Need-slice-aggregate-put-fields
 slice-aggregate-put-fields c = search needs
 
--- src/lib.rt:246:9
 put-fields-requires : tie.Need-put-fields-requires
 put-fields-requires c κs = search needs
 
--- src/lib.rt:248:9
 returns : tie.Need-returns
 returns c = no-room _ _ _ _ (c .before .before .put-fields .ensures .counted) (spelled (c .before .before .before .before .before .before .before .args .f) _ _ (c .before .before .before .before .row-of .ensures .0) (c .before .before .put-fields .ensures .is)) (c .if1 .taken)
 
--- src/lib.rt:250:42
 array-share-prefix-out : tie.Need-array-share-prefix-out
 array-share-prefix-out c = search needs
 
--- src/lib.rt:250:42
 slice-aggregate-put-text : tie.Need-slice-aggregate-put-text
 slice-aggregate-put-text c = search needs
 
--- src/lib.rt:250:9
 put-text-requires : tie.Need-put-text-requires
 put-text-requires c κs = search needs
 
--- src/lib.rt:240:1
 same-length : tie.Need-same-length
 same-length c = search needs
 
--- src/lib.rt:240:1
 returns-2 : tie.Need-returns-2
 returns-2 c = has-room _ _ _ _ _ (spelled (c .before .before .before .before .before .before .before .before .before .before .before .before .args .f) _ _ (c .before .before .before .before .before .before .before .before .before .row-of .ensures .0) (c .before .before .before .before .before .before .before .put-fields .ensures .is)) (c .before .before .put-text .ensures)
 

@@ -1,3 +1,4 @@
+-- `spelling::put_fields` meets its contract. Assumes nothing.
 use native.Mathlib.Omega.{arith}
 use mathlib.Core.Path.{sym, ap₂, subst}
 use Rattle.pieces.proofs.Pieces.{said, stands}
@@ -7,34 +8,22 @@ use Rattle.spelling.proofs.Padded.{front, front-counted}
 use borrow.Author.Needs.{needs}
 use Rattle.spelling.proofs.put_fields.Statement.{statement}
 use Rattle.spelling.proofs.put_fields.Tie as tie
-use Rattle.spelling.proofs.put_fields.Reads as reads
-use Rattle.spelling.proofs.put_fields.Lts as lts
-use Rattle.spelling.proofs.length_at.Reads as length-at-reads
-use Rattle.spelling.proofs.row_at.Reads as row-at-reads
-use Rattle.spelling.proofs.values_of.Reads as values-of-reads
-use Rattle.syntax.proofs.put_row.Reads as put-row-reads
 
--- src/lib.rt:224:15
 row-at-requires : tie.Need-row-at-requires
 row-at-requires c κs = search needs
 
--- src/lib.rt:225:9
 length-at-requires : tie.Need-length-at-requires
 length-at-requires c κs = search needs
 
--- src/lib.rt:226:18
 values-of-requires : tie.Need-values-of-requires
 values-of-requires c κs = search needs
 
--- src/lib.rt:227:26
 array-share-prefix-row : tie.Need-array-share-prefix-row
 array-share-prefix-row c = search needs
 
--- src/lib.rt:227:26
 slice-aggregate-put-row : tie.Need-slice-aggregate-put-row
 slice-aggregate-put-row c = front-counted _ _ _ (c .before .before .before .before .row-at .ensures) (c .before .before .before .length-at .ensures .0)
 
--- src/lib.rt:227:5
 put-row-requires : tie.Need-put-row-requires
 put-row-requires c κs = (
   omega (arith, front-counted _ _ _ (c .before .before .before .before .before .row-at .ensures) (c .before .before .before .before .length-at .ensures .0), c .before .before .before .before .length-at .ensures .1),
@@ -42,11 +31,9 @@ put-row-requires c κs = (
   subst OneByte (sym (c .before .before .before .values-of .ensures)) (one-byte (c .before .before .before .before .before .before .before .args .f) (c .before .before .before .before .before .before .before .pre .2)),
 )
 
--- src/lib.rt:220:1
 same-length : tie.Need-same-length
 same-length c = search needs
 
--- src/lib.rt:220:1
 returns : tie.Need-returns
 returns c = stands (said (ap₂ fill (c .before .before .before .before .before .before .values-of .ensures) (front (c .before .before .before .before .before .before .before .before .before .before .args .k) _ _ (c .before .before .before .before .before .before .before .before .row-at .ensures) (c .before .before .before .before .before .before .before .length-at .ensures .0))) (c .before .before .put-row .ensures))
 

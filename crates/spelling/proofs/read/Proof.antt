@@ -1,3 +1,4 @@
+-- `spelling::read` meets its contract. Assumes nothing.
 use native.Mathlib.Omega.{arith}
 use mathlib.Core.Path.{sym, ap, _∙_}
 use borrow.Author.Tests.{not-true, not-false}
@@ -8,49 +9,34 @@ use Rattle.spelling.proofs.Reading.{read-as-decoded}
 use borrow.Author.Needs.{needs}
 use Rattle.spelling.proofs.read.Statement.{statement}
 use Rattle.spelling.proofs.read.Tie as tie
-use Rattle.spelling.proofs.read.Reads as reads
-use Rattle.spelling.proofs.read.Lts as lts
-use Rattle.settings.proofs.Settings.valid.Reads as valid-reads
-use Rattle.spelling.proofs.word_of.Reads as word-of-reads
-use Rattle.words.proofs.decode.Reads as decode-reads
 
--- src/lib.rt:460:9
 valid-requires : tie.Need-valid-requires
 valid-requires c κs = search needs
 
--- src/lib.rt:461:9
 returns : tie.Need-returns
 returns c = bad-settings (sym (c .before .valid .ensures) ∙ not-true _ (c .if1 .taken))
 
--- src/lib.rt:463:9
 word-of-requires : tie.Need-word-of-requires
 word-of-requires c κs = search needs
 
--- src/lib.rt:465:9
 returns-2 : tie.Need-returns-2
 returns-2 c = not-text (sym (c .before .before .before .valid .ensures) ∙ not-false _ (c .before .before .if1 .left)) (c .before .word-of .ensures .none (c .if2 .taken))
 
--- src/lib.rt:467:17
 cast-found : tie.Need-cast-found
 cast-found c = search needs
 
--- src/lib.rt:468:9
 decode-requires : tie.Need-decode-requires
 decode-requires c κs = search needs
 
--- src/lib.rt:470:29
 enum-told : tie.Need-enum-told
 enum-told c = search needs
 
--- src/lib.rt:471:26
 enum-known-decoded : tie.Need-enum-known-decoded
 enum-known-decoded c = search needs
 
--- src/lib.rt:457:1
 returns-3 : tie.Need-returns-3
 returns-3 c = read-as-decoded (c .before .before .before .before .before .before .before .before .args .settings) (c .before .before .before .before .before .before .before .before .args .text .now) _ _ _ (sym (c .before .before .before .before .before .before .valid .ensures) ∙ not-false _ (c .before .before .before .before .before .if1 .left)) (c .before .before .before .before .word-of .ensures .found (omega arith)) (sym (c .before .before .decode .ensures) ∙ ap decodedSays (c .enum-told .given .1))
 
--- src/lib.rt:457:1
 returns-4 : tie.Need-returns-4
 returns-4 c = rw (tests-not-0 (c .before .decoded .given .0 .0)) at (read-as-decoded (c .before .before .before .before .before .before .before .before .before .args .settings) (c .before .before .before .before .before .before .before .before .before .args .text .now) _ _ _ (sym (c .before .before .before .before .before .before .before .valid .ensures) ∙ not-false _ (c .before .before .before .before .before .before .if1 .left)) (c .before .before .before .before .before .word-of .ensures .found (omega arith)) (sym (c .before .before .before .decode .ensures) ∙ ap decodedSays (c .before .decoded .given .1)))
 

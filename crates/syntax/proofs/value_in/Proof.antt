@@ -1,3 +1,4 @@
+-- `syntax::value_in` meets its contract. Assumes nothing.
 use native.Mathlib.Omega.{arith}
 use mathlib.Core.Path.{_≡_, sym, _∙_}
 use mathlib.Core.Bool.{true, false}
@@ -7,39 +8,28 @@ use Rattle.syntax.proofs.Laws.{letter-range}
 use borrow.Author.Needs.{needs}
 use Rattle.syntax.proofs.value_in.Statement.{statement}
 use Rattle.syntax.proofs.value_in.Tie as tie
-use Rattle.syntax.proofs.value_in.Reads as reads
-use Rattle.syntax.proofs.value_in.Lts as lts
-use Rattle.syntax.proofs.is_letter.Reads as is-letter-reads
 
--- src/lib.rt:35:9
 is-letter-requires : tie.Need-is-letter-requires
 is-letter-requires c κs = search needs
 
--- src/lib.rt:36:9
 returns : tie.Need-returns
 returns c = let m : isLetter (c .before .before .args .c) ≡ false = sym (c .before .is-letter .ensures) ∙ not-true _ (c .if1 .taken) in rw m
 
--- src/lib.rt:38:19
 sub-letter : tie.Need-sub-letter
 sub-letter c = let r = letter-range (c .before .before .args .c) (sym (c .before .is-letter .ensures) ∙ not-false _ (c .if1 .left)) in omega arith
 
--- src/lib.rt:38:18
 cast-letter : tie.Need-cast-letter
 cast-letter c = search needs
 
--- src/lib.rt:39:5
 mul-result : tie.Need-mul-result
 mul-result c = search needs
 
--- src/lib.rt:39:5
 element-copy-out-result : tie.Need-element-copy-out-result
 element-copy-out-result c = let r = letter-range (c .before .before .args .c) (sym (c .before .is-letter .ensures) ∙ not-false _ (c .if1 .left)) in omega arith
 
--- src/lib.rt:39:5
 cast-result : tie.Need-cast-result
 cast-result c = record { fits = c .before .before .before .pre (c .before .before .before .args .c) }
 
--- src/lib.rt:31:1
 returns-2 : tie.Need-returns-2
 returns-2 c = let m : isLetter (c .before .before .before .args .c) ≡ true = sym (c .before .before .is-letter .ensures) ∙ not-false _ (c .before .if1 .left) in rw m
 
