@@ -1,5 +1,5 @@
 pub mod Arms
-pub mod Padded
+pub mod Placed
 pub mod Putting
 pub mod Back
 pub mod Reading

@@ -1,10 +1,10 @@
--- What only the code needs, and no promise of a public call names: rows with blanks behind them, and the one Fields that a text can have by a row.
-use Prim.Native.Nat.{ℕ, _+_, _-_}
+-- What only the code needs, and no promise of a public call names: where a row stands among all, and the one Fields that a text can have by a row.
+use Prim.Native.Nat.{ℕ, zero, suc, _+_, _-_}
 use Prim.Native.String.{String}
 use mathlib.Core.Bool.{_||_, cond}
-use mathlib.Core.List.{List, [], _∷_, _++_, map}
+use mathlib.Core.List.{List, [], _∷_, _++_}
 use lib.Dec.{eqb, ltb}
-use lib.ListN.{length, getD, replicate}
+use lib.ListN.{length, getD}
 use Rattle.pieces.specs.Pieces.{text}
 use Rattle.syntax.specs.Syntax.{valueIn}
 use Rattle.syntax.specs.Scan.{taken}
@@ -15,15 +15,22 @@ use Rattle.words.specs.declared.Fields.{Fields}
 use Rattle.spelling.specs.Rows.{syntaxes, syntaxAt}
 use Rattle.spelling.specs.Spell.{byteOf, letters}
 
--- a row with blanks up to 56 bytes
-abbrev pub padded : List ℕ → List ℕ
-padded row = row ++ replicate (56 - length row) (byteOf " ")
+-- the rows, one behind the other
+abbrev pub joined : List String → List ℕ
+joined [] = []
+joined (s ∷ ss) = text s ++ joined ss
 
-unfoldable pub paddedRows : List (List ℕ)
-paddedRows = map (λ (s : String). padded (text s)) syntaxes
+unfoldable pub allRows : List ℕ
+allRows = joined syntaxes
 
-unfoldable pub paddedAt : ℕ → List ℕ
-paddedAt k = padded (syntaxAt k)
+-- where a row begins, and the one before it ends
+abbrev pub startIn : List String → ℕ → ℕ
+startIn ss zero = 0
+startIn [] (suc k) = 0
+startIn (s ∷ ss) (suc k) = length (text s) + startIn ss k
+
+unfoldable pub startAt : ℕ → ℕ
+startAt k = startIn syntaxes k
 
 -- by the row's number: the family, the lane and the part
 abbrev pub familyAt : ℕ → Family

@@ -11,7 +11,7 @@ ghost use Rattle.spelling.specs.Rows.{syntaxAt};
 ghost use Rattle.spelling.specs.Spell.{lastOffset, letterValues, byPart, rowFor, spell, longestText};
 ghost use Rattle.spelling.specs.Print.{printedSays, putInto, PrintPromise};
 ghost use Rattle.spelling.specs.Language.{Spells, ReadPromise};
-ghost use Rattle.spelling.specs.Candidate.{paddedRows, paddedAt, familyAt, rowLanes, rowParts, fieldsBy, candidateAt, groupOf};
+ghost use Rattle.spelling.specs.Candidate.{allRows, startAt, familyAt, rowLanes, rowParts, fieldsBy, candidateAt, groupOf};
 ghost use Rattle.spelling.specs.Tried.{Figures, SpellsBy};
 use settings::Refusal;
 use settings::Settings;
@@ -45,71 +45,61 @@ const ROWS: usize = 18;
 // Room for a text: the longest row has 56 bytes, and no byte of a row says more than two.
 const OUT: usize = 112;
 
-// The rows, with blanks up to the longest, so that they make one table; their lengths stand apart.
-const SYNTAXES: [[u8; 56]; ROWS] = [
-    *b"UmlSl vD.4s, vN.4h, vM.h[I]                             ",
-    *b"UmlSl2 vD.4s, vN.8h, vM.h[I]                            ",
-    *b"UmlSl vD.2d, vN.2s, vM.s[I]                             ",
-    *b"UmlSl2 vD.2d, vN.4s, vM.s[I]                            ",
-    *b"UmlSl vD.8h, vN.8b, vM.8b                               ",
-    *b"UmlSl2 vD.8h, vN.16b, vM.16b                            ",
-    *b"UmlSl vD.4s, vN.4h, vM.4h                               ",
-    *b"UmlSl2 vD.4s, vN.8h, vM.8h                              ",
-    *b"UmlSl vD.2d, vN.2s, vM.2s                               ",
-    *b"UmlSl2 vD.2d, vN.4s, vM.4s                              ",
-    *b"sqdmlSlT zD.s, zN.h, zM.h[I]                            ",
-    *b"sqdmlSlT zD.d, zN.s, zM.s[I]                            ",
-    *b"UmlSll za.s[wR, O:P, vgxG], { zN.b-zK.b }, { zM.b-zL.b }",
-    *b"UmlSll za.d[wR, O:P, vgxG], { zN.h-zK.h }, { zM.h-zL.h }",
-    *b"UmlSl za.s[wR, O:P, vgxG], { zN.h-zK.h }, { zM.h-zL.h } ",
-    *b"UmlSll za.s[wR, O:P], { zN.b-zK.b }, { zM.b-zL.b }      ",
-    *b"UmlSll za.d[wR, O:P], { zN.h-zK.h }, { zM.h-zL.h }      ",
-    *b"UmlSl za.s[wR, O:P], { zN.h-zK.h }, { zM.h-zL.h }       ",
-];
+// The rows, one behind the other.
+const SYNTAXES: [u8; 637] = *b"UmlSl vD.4s, vN.4h, vM.h[I]\
+    UmlSl2 vD.4s, vN.8h, vM.h[I]\
+    UmlSl vD.2d, vN.2s, vM.s[I]\
+    UmlSl2 vD.2d, vN.4s, vM.s[I]\
+    UmlSl vD.8h, vN.8b, vM.8b\
+    UmlSl2 vD.8h, vN.16b, vM.16b\
+    UmlSl vD.4s, vN.4h, vM.4h\
+    UmlSl2 vD.4s, vN.8h, vM.8h\
+    UmlSl vD.2d, vN.2s, vM.2s\
+    UmlSl2 vD.2d, vN.4s, vM.4s\
+    sqdmlSlT zD.s, zN.h, zM.h[I]\
+    sqdmlSlT zD.d, zN.s, zM.s[I]\
+    UmlSll za.s[wR, O:P, vgxG], { zN.b-zK.b }, { zM.b-zL.b }\
+    UmlSll za.d[wR, O:P, vgxG], { zN.h-zK.h }, { zM.h-zL.h }\
+    UmlSl za.s[wR, O:P, vgxG], { zN.h-zK.h }, { zM.h-zL.h }\
+    UmlSll za.s[wR, O:P], { zN.b-zK.b }, { zM.b-zL.b }\
+    UmlSll za.d[wR, O:P], { zN.h-zK.h }, { zM.h-zL.h }\
+    UmlSl za.s[wR, O:P], { zN.h-zK.h }, { zM.h-zL.h }";
 
-// The table, for whoever asks for row after row: the compiler makes it anew in each function that names the constant.
-fn rows() -> [[u8; 56]; ROWS]
-    ensures { λ r. ⌜ r ≡ paddedRows ⌝ }
+// Handed out once for all that is done with them: the compiler makes a constant array anew in each function that names it.
+fn rows() -> [u8; 637]
+    ensures { λ r. ⌜ r ≡ allRows ⌝ }
 {
     SYNTAXES
 }
 
-// The row of a number, with blanks behind it.
-fn row_at(k: usize) -> [u8; 56]
-    requires { ⌜ k < 18 ⌝ }
-    ensures { λ r. ⌜ r ≡ paddedAt k ⌝ }
-{
-    let all = rows();
-    all[k]
-}
-
-const LENGTHS: [u8; ROWS] = [
+// Where each row begins, and where the last one ends.
+const STARTS: [u16; 19] = [
+    0,
     27,
-    28,
-    27,
-    28,
-    25,
-    28,
-    25,
-    26,
-    25,
-    26,
-    28,
-    28,
-    56,
-    56,
     55,
-    50,
-    50,
-    49,
+    82,
+    110,
+    135,
+    163,
+    188,
+    214,
+    239,
+    265,
+    293,
+    321,
+    377,
+    433,
+    488,
+    538,
+    588,
+    637,
 ];
 
-// Its length without them.
-fn length_at(k: usize) -> usize
-    requires { ⌜ k < 18 ⌝ }
-    ensures { λ r. ⌜ (r ≡ length (syntaxAt k)) × (r ≤ 56) ⌝ }
+fn start_at(k: usize) -> usize
+    requires { ⌜ k < 19 ⌝ }
+    ensures { λ r. ⌜ r ≡ startAt k ⌝ }
 {
-    LENGTHS[k] as usize
+    STARTS[k] as usize
 }
 
 fn by_part(part: u32, q0: usize, q1: usize) -> usize
@@ -229,10 +219,11 @@ fn put_fields(out: &mut [u8], k: usize, f: Fields) -> usize
     requires { ⌜ (k < 18) × (112 ≤ length (now out)) × Figures f ⌝ }
     ensures { λ r. ⌜ Stands (fill (letterValues f) (syntaxAt k)) (now (out .entry)) (now (out .exit)) r ⌝ }
 {
-    let row = row_at(k);
-    let end = length_at(k);
+    let all = rows();
+    let from = start_at(k);
+    let to = start_at(k + 1);
     let values = values_of(f);
-    syntax::put_row(out, &row[..end], &values)
+    syntax::put_row(out, &all[from..to], &values)
 }
 
 // A function of its own: of an array that a call returns the prover knows the length, and of one that it sees made it counts the elements.
@@ -418,15 +409,15 @@ fn compared(text: &[u8], k: usize, f: Fields) -> u64
     NO_WORD
 }
 
-// The word of a text by a row of the table.
-fn word_by(text: &[u8], all: &[[u8; 56]; ROWS], k: usize) -> u64
-    requires { ⌜ (k < 18) × (now all ≡ paddedRows) ⌝ }
+// The word of a text by a row.
+fn word_by(text: &[u8], all: &[u8], k: usize) -> u64
+    requires { ⌜ (k < 18) × (now all ≡ allRows) ⌝ }
     ensures { λ r. ⌜ TheWord (SpellsBy k (now (text .entry))) r ⌝ }
 {
-    let row = all[k];
-    let end = length_at(k);
+    let from = start_at(k);
+    let to = start_at(k + 1);
     let mut values = [0u32; 26];
-    if !syntax::scan(text, &row[..end], &mut values) {
+    if !syntax::scan(text, &all[from..to], &mut values) {
         return NO_WORD;
     }
     let f = fields_of(k, &values);

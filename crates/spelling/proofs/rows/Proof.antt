@@ -1,12 +1,12 @@
 -- `spelling::rows` meets its contract. Assumes nothing.
 use borrow.Author.Needs.{needs}
 use mathlib.Core.Path.{refl}
-use Rattle.spelling.specs.Candidate.{paddedRows}
+use Rattle.spelling.specs.Candidate.{allRows}
 use Rattle.spelling.proofs.rows.Statement.{statement}
 use Rattle.spelling.proofs.rows.Tie as tie
 
 returns : tie.Need-returns
-unfolding paddedRows
+unfolding allRows
 returns c = refl
 
 pub rows-spec : {M : Type 1} → statement M
