@@ -5,7 +5,7 @@ ghost use mathlib.Core.Bool.{true, false, cond};
 ghost use Prim.Native.Nat.{_≤_, _<_};
 ghost use lib.ListN.{length, getD};
 ghost use Rattle.pieces.specs.Pieces.{Stands};
-ghost use Rattle.syntax.specs.Syntax.{fill};
+ghost use Rattle.syntax.specs.Syntax.{valueIn, fill};
 ghost use Rattle.encoding.specs.Encode.{TheWord};
 ghost use Rattle.spelling.specs.Rows.{syntaxAt};
 ghost use Rattle.spelling.specs.Spell.{lastOffset, letterValues, byPart, rowFor, spell, longestText};
@@ -332,50 +332,39 @@ fn group_of(first: u32, last: u32) -> u32
     0
 }
 
-// The places of the letters among their 26 values.
-const D: usize = 3;
-
-const I: usize = 8;
-
-const K: usize = 10;
-
-const M: usize = 12;
-
-const N: usize = 13;
-
-const O: usize = 14;
-
-const R: usize = 17;
-
-const S: usize = 18;
-
-const T: usize = 19;
-
-const U: usize = 20;
+// The value of a letter.
+fn value(values: &[u32; 26], letter: u8) -> u32
+    requires { ⌜ (64 < letter) × (letter < 91) ⌝ }
+    ensures { λ r. ⌜ r ≡ valueIn (now (values .entry)) letter ⌝ }
+{
+    let place = (letter - 65) as usize;
+    values[place]
+}
 
 // The fields of a row's number and of its values. The bytes of `s`, `t` and `u` are 115 to 117.
 fn fields_of(k: usize, values: &[u32; 26]) -> Fields
     requires { ⌜ k < 18 ⌝ }
     ensures { λ r. ⌜ r ≡ fieldsBy k (now (values .entry)) ⌝ }
 {
+    let first = value(values, b'N');
     let family = family_at(k);
     let lane = lane_at(k);
     let part = part_at(k);
-    let top = words::bit(values[T] == 116);
-    let group = group_of(values[N], values[K]);
+    let top = words::bit(value(values, b'T') == 116);
+    let group = group_of(first, value(values, b'K'));
     Fields {
         family: family,
-        unsigned: values[U] == 117,
-        subtract: values[S] == 115,
+        unsigned: value(values, b'U') == 117,
+        subtract: value(values, b'S') == 115,
         lane: lane,
         part: part + top,
-        index: values[I],
-        destination: values[D],
-        first: values[N],
-        second: values[M],
+        index: value(values, b'I'),
+        destination: value(values, b'D'),
+        first: first,
+        second: value(values, b'M'),
         group: group,
-        select: values[R],
-        offset: values[O],
+        select: value(values, b'R'),
+        offset: value(values, b'O'),
     }
 }
 
