@@ -1,8 +1,7 @@
--- What is left for the last arm of a match, and what holds of each number of a list or below one. Assumes nothing.
+-- What holds of each number of a list or below one. Assumes nothing.
 use Prim.Native.Nat.{ℕ, zero, suc, _<_, _≤_}
 use native.Mathlib.Omega.{arith}
 use mathlib.Core.Path.{_≡_, refl}
-use mathlib.Core.Logic.{_≢_}
 use mathlib.Core.Bool.{Bool, true, _&&_}
 use mathlib.Core.List.{List, [], _∷_}
 use lib.Dec.{ltb}
@@ -22,9 +21,6 @@ pub each-below : (P : ℕ → Type 0) (n : ℕ) → Each P (below n) → (k : �
 each-below P zero e k h = absurd (omega arith)
 each-below P (suc n) e k h =
     by-lt k n (λ (l : k < n). each-below P n (e .1) k l) (λ (l : n ≤ k). let q : k ≡ n = omega arith in rw q (e .0))
-
-pub five : (j : ℕ) → j < 6 → j ≢ 0 → j ≢ 1 → j ≢ 2 → j ≢ 3 → j ≢ 4 → j ≡ 5
-five j h a b c d e = omega arith
 
 -- ---- numbers of a list
 

@@ -2,13 +2,13 @@
 // it for the only fields that a text can have: whether the text is theirs is seen by writing it again.
 ghost use mathlib.Core.Path.{_≡_};
 ghost use mathlib.Core.Bool.{true, false, cond};
-ghost use Prim.Native.Nat.{_≤_, _<_};
+ghost use Prim.Native.Nat.{_+_, _≤_, _<_};
 ghost use lib.ListN.{length, getD};
 ghost use Rattle.pieces.specs.Pieces.{Stands};
 ghost use Rattle.syntax.specs.Syntax.{valueIn, fill};
 ghost use Rattle.encoding.specs.Encode.{TheWord};
 ghost use Rattle.spelling.specs.Rows.{syntaxAt};
-ghost use Rattle.spelling.specs.Spell.{lastOffset, letterValues, byPart, rowFor, spell, longestText};
+ghost use Rattle.spelling.specs.Spell.{lastOffset, letterValues, rowFor, spell, longestText};
 ghost use Rattle.spelling.specs.Print.{printedSays, putInto, PrintPromise};
 ghost use Rattle.spelling.specs.Language.{Spells, ReadPromise};
 ghost use Rattle.spelling.specs.Candidate.{allRows, startAt, familyAt, rowLanes, rowParts, fieldsBy, candidateAt, groupOf};
@@ -102,62 +102,29 @@ fn start_at(k: usize) -> usize
     STARTS[k] as usize
 }
 
-fn by_part(part: u32, q0: usize, q1: usize) -> usize
-    requires { ⌜ (q0 < 18) × (q1 < 18) ⌝ }
-    ensures { λ r. ⌜ (r ≡ byPart part q0 q1) × (r < 18) ⌝ }
+fn either(is: bool, yes: u32, no: u32) -> u32
+    ensures { λ r. ⌜ (r ≡ cond is yes no) × (r ≤ yes + no) ⌝ }
 {
-    if part == 0 {
-        return q0;
-    }
-    q1
+    if is { yes } else { no }
 }
 
 // The number of the row of fields, the preferred one.
-fn row_of(f: Fields) -> usize
-    ensures { λ r. ⌜ (r ≡ rowFor false f) × (r < 18) ⌝ }
+fn row_of(f: Fields) -> u32
+    ensures { λ r. ⌜ r ≡ rowFor false f ⌝ }
 {
     let family = f.family;
     let lane = f.lane;
-    let part = f.part;
+    let half = either(f.part == 0, 0, 1);
     match family {
-        Family::ByElement => {
-            if lane == 16 {
-                return by_part(part, 0, 1);
-            }
-            by_part(part, 2, 3)
-        }
-        Family::Vector => {
-            if lane == 8 {
-                return by_part(part, 4, 5);
-            }
-            if lane == 16 {
-                return by_part(part, 6, 7);
-            }
-            by_part(part, 8, 9)
-        }
-        Family::Saturating => {
-            if lane == 16 {
-                return 10;
-            }
-            11
-        }
-        Family::LongLong => {
-            if lane == 8 {
-                return 12;
-            }
-            13
-        }
+        Family::ByElement => either(lane == 16, 0, 2) + half,
+        Family::Vector => either(lane == 8, 4, either(lane == 16, 6, 8)) + half,
+        Family::Saturating => either(lane == 16, 10, 11),
+        Family::LongLong => either(lane == 8, 12, 13),
         Family::Long => 14,
     }
 }
 
 // ---- the values of a word's fields
-
-fn either(is: bool, yes: u32, no: u32) -> u32
-    ensures { λ r. ⌜ r ≡ cond is yes no ⌝ }
-{
-    if is { yes } else { no }
-}
 
 fn last_offset(family: Family, offset: u32) -> u32
     requires { ⌜ offset < 8 ⌝ }
@@ -241,7 +208,7 @@ fn print_fields(room: &mut [u8], f: Fields) -> Printed
     ensures { λ r. ⌜ (printedSays r, now (room .exit)) ≡ putInto (spell false f) (now (room .entry)) ⌝ }
 {
     let mut out = text_room();
-    let k = row_of(f);
+    let k = row_of(f) as usize;
     let n = put_fields(&mut out, k, f);
     if room.len() < n {
         return Printed::Refused(Refusal::ShortRoom);

@@ -1,5 +1,4 @@
 -- `spelling::family_at` meets its contract. Assumes nothing.
-use borrow.Author.Needs.{needs}
 use borrow.Author.Tests.{lt-ltb, le-ltb}
 use Rattle.spelling.proofs.family_at.Statement.{statement}
 use Rattle.spelling.proofs.family_at.Tie as tie

@@ -1,5 +1,4 @@
 -- `spelling::rows` meets its contract. Assumes nothing.
-use borrow.Author.Needs.{needs}
 use mathlib.Core.Path.{refl}
 use Rattle.spelling.specs.Candidate.{allRows}
 use Rattle.spelling.proofs.rows.Statement.{statement}

@@ -30,7 +30,7 @@ sub-l c = search needs
 
 returns : tie.Need-returns
 unfolding letterValues
-returns c = rw (c .before .before .either3 .ensures, c .before .before .before .either2 .ensures, c .before .before .before .before .before .either .ensures, c .before .before .before .before .before .before .last-offset .ensures)
+returns c = rw (c .before .before .either3 .ensures .0, c .before .before .before .either2 .ensures .0, c .before .before .before .before .before .either .ensures .0, c .before .before .before .before .before .before .last-offset .ensures)
 
 pub values-of-spec : {M : Type 1} → statement M
 values-of-spec =
