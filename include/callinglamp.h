@@ -1,7 +1,22 @@
 /* Callinglamp, for C and C++: the eight calls of the proved library, by numbers and bytes.
  *
- * `rt staticlib host` proves and builds target/staticlib/libhost.a, for x86-64. "Document 01" is the paper that says
- * what each call answers, and the words below are its words.
+ * `tools/build-c` proves the library, and lays it down with this header. "Document 01" is the paper that says what each
+ * call answers, and the words below are its words.
+ *
+ * The families, what they need of the settings, and a word of each with its text:
+ *     family  mnemonics                                          features          modes
+ *     A       smlal smlsl umlal umlsl and .. 2, by element       AdvSIMD           SM off
+ *     B       the same, by vector                                AdvSIMD           SM off
+ *     C       sqdmlalb sqdmlalt sqdmlslb sqdmlslt, by element    SVE2 or SME       SM on, or SVE2
+ *     D       smlall smlsll umlall umlsll, into ZA               SME2; for lanes   SM and ZA on
+ *                                                                of 16 I16I64 too
+ *     E       smlal smlsl umlal umlsl, into ZA                   SME2              SM and ZA on
+ *
+ *     A  6F536841  umlsl2 v1.4s, v2.8h, v3.h[5]
+ *     B  0E238041  smlal v1.8h, v2.8b, v3.8b
+ *     C  44B32841  sqdmlalb z1.s, z2.h, z3.h[5]
+ *     D  C1A20008  smlsll za.s[w8, 0:3, vgx2], { z0.b-z1.b }, { z2.b-z3.b }
+ *     E  C1FD6813  umlal za.s[w11, 6:7, vgx4], { z0.h-z3.h }, { z28.h-z31.h }
  *
  * What C must keep to, since nothing checks it:
  *   - no pointer is NULL, also where the length beside it is 0;
@@ -18,9 +33,17 @@
 #include <stddef.h>
 #include <stdint.h>
 
+/* The version, 1.2.0, as one number: ten thousands are its major number, hundreds its minor one. The major number is
+ * another where a caller has to change something, as where an array is longer; CHANGELOG.md says what. */
+#define CALLINGLAMP_VERSION 10200
+
 #ifdef __cplusplus
 extern "C" {
 #endif
+
+/* The version of the library that was linked. Where it is not CALLINGLAMP_VERSION, the library and this header do not
+ * belong together. */
+uint32_t callinglamp_version(void);
 
 /* Refusal numbers. A call tests in the order that stands with it, and the first test that fails decides. */
 enum {
@@ -52,6 +75,37 @@ static inline uint32_t callinglamp_value(uint64_t answer)
     return (uint32_t)(answer >> 32);
 }
 
+/* 1 where the call was accepted, and 0 where it was refused. It is not for percent, whose answer is its number. */
+static inline int callinglamp_ok(uint64_t answer)
+{
+    return callinglamp_refusal(answer) == CALLINGLAMP_ACCEPTED;
+}
+
+/* What a refusal number says to whoever runs a program, in a sentence without its full stop. `./lamp` and `./spell` say
+ * it too: they take it from these lines. */
+static inline const char *callinglamp_refusal_text(uint32_t number)
+{
+    switch (number) {
+    case 0: return "accepted";
+    case 1: return "the settings are not valid: VL, the features or the modes";
+    case 2: return "Z, ZA or the report does not have the length that is due";
+    case 3: return "the word is none of the five families, its size is reserved, or the settings lack a feature of it";
+    case 4: return "the modes do not permit the word: A and B need SM off, C SM on or SVE2, D and E SM and ZA on";
+    case 5: return "no word has these fields";
+    case 6: return "the word is of family C, which has no partner";
+    case 7: return "the list ends too early: inside a number or the Z bytes, or before a number that is due";
+    case 8: return "a number of the list is not in its shortest form, or not below 2^32";
+    case 9: return "the list has more than 1,024 words";
+    case 10: return "the list goes on after its last word";
+    case 11: return "the text is not that of a word, in lower case and with the one spacing";
+    case 12: return "the room is shorter than the text";
+    default: return "no refusal has this number";
+    }
+}
+
+/* A call needs at most so many bytes of stack, run included. */
+enum { CALLINGLAMP_STACK = 16384 };
+
 /* settings[7]: VL, features, modes, W8, W9, W10, W11.
  *   VL         128, 256 or 512 bits
  *   features   a sum of CALLINGLAMP_FEATURE_..; SME2 needs SME, and I16I64 needs SME; 0 is valid, and enables no word
@@ -59,6 +113,10 @@ static inline uint32_t callinglamp_value(uint64_t answer)
  *   W8 to W11  the select registers, any number
  * Settings that do not keep to this are refused with 1 by every call that takes them, before all else. */
 enum { CALLINGLAMP_SETTINGS = 7 };
+
+/* Z has 32 * VL/8 bytes, and ZA VL/8 * VL/8. Rooms of these lengths hold them at any VL; a call is told the lengths of
+ * its own VL. */
+enum { CALLINGLAMP_MOST_Z = 2048, CALLINGLAMP_MOST_ZA = 4096 };
 
 enum {
     CALLINGLAMP_FEATURE_ADVSIMD = 1,
@@ -116,12 +174,16 @@ uint64_t callinglamp_encode(const uint32_t settings[7], const uint32_t fields[12
  * Refused with 1; 3 as in decode; 6 where the word is of family C. */
 uint64_t callinglamp_partner(const uint32_t settings[7], uint32_t word);
 
+/* counts[2]: toggled, the number of bits of Z and ZA that changed, and written. */
+enum { CALLINGLAMP_COUNTS = 2 };
+
 /* Runs one word.
  *   settings       as above
  *   word           any number: the word
  *   z, z_length    Z: 32 registers of VL/8 bytes, 32 * VL/8 bytes in all
  *   za, za_length  ZA: VL/8 vectors of VL/8 bytes
- *   counts         accepted: toggled, the number of bits of Z and ZA that changed, and written
+ *   counts         accepted: as above
+ * A word of A or B writes the low 16 bytes of its register, and the bytes above them stay.
  * Refused with 1; 2 where a length is not exact, whatever the family; 3 as in decode; 4 where the modes do not permit
  * the family: A and B need SM off, C needs SM on or SVE2, D and E need SM and ZA on. */
 uint64_t callinglamp_execute(const uint32_t settings[7], uint32_t word, uint8_t *z, size_t z_length, uint8_t *za,
@@ -132,8 +194,9 @@ uint64_t callinglamp_execute(const uint32_t settings[7], uint32_t word, uint8_t 
  *   written  any number */
 uint64_t callinglamp_percent(uint32_t toggled, uint32_t written);
 
-/* A list has at most so many words, and a report of three times as many numbers is long enough for any list. */
-enum { CALLINGLAMP_MOST_WORDS = 1024 };
+/* A list has at most so many words, and a report so many numbers for each of them: MOST_WORDS * PER_WORD are enough for
+ * any list. */
+enum { CALLINGLAMP_MOST_WORDS = 1024, CALLINGLAMP_PER_WORD = 3, CALLINGLAMP_TOTALS = 3 };
 
 /* Runs a list of words: VL, features, modes, W8 to W11; the Z bytes as they are; a count n; n words. Its numbers are in
  * groups of seven bits, low group first, top bit set when another follows, in the shortest form, below 2^32.
@@ -156,20 +219,16 @@ enum { CALLINGLAMP_MOST_WORDS = 1024 };
 uint64_t callinglamp_run(const uint8_t *list, size_t list_length, uint8_t *z, size_t z_length, uint8_t *za,
                          size_t za_length, uint32_t *report, size_t report_length, uint32_t totals[3]);
 
-/* The longest text has so many bytes, so that a room of this length is long enough for any word. */
-enum { CALLINGLAMP_LONGEST_TEXT = 61 };
+/* The longest text has so many bytes, so that a room of this length is long enough for any word. LONGEST_TEXT is the
+ * name that it had first. */
+enum { CALLINGLAMP_MOST_TEXT = 61, CALLINGLAMP_LONGEST_TEXT = CALLINGLAMP_MOST_TEXT };
 
 /* Prints Arm's preferred text of a word. Its length is the answer's value.
  *   settings           as above
  *   word               any number: the word
  *   room, room_length  accepted: the text, at the room's start; the rest stays
- * A text is in ASCII and in lower case. A space stands where one stands here, and nowhere else; no line end and no NUL
- * follows. One text of each family, A to E:
- *     umlsl2 v1.4s, v2.8h, v3.h[5]
- *     smlal v1.8h, v2.8b, v3.8b
- *     sqdmlalb z1.s, z2.h, z3.h[5]
- *     smlsll za.s[w8, 0:3, vgx2], { z0.b-z1.b }, { z2.b-z3.b }
- *     umlal za.s[w11, 6:7, vgx4], { z0.h-z3.h }, { z28.h-z31.h }
+ * A text is in ASCII and in lower case. A space stands where one stands in the texts at the top of this file, and
+ * nowhere else; no line end and no NUL follows.
  * Refused with 1; 3 as in decode; 12 where the room is shorter than the text. */
 uint64_t callinglamp_print(const uint32_t settings[7], uint32_t word, char *room, size_t room_length);
 

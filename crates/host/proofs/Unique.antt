@@ -11,7 +11,7 @@ use Rattle.packing.specs.Packing.{ofHalves, halves, fieldsFrom, HostExecuted, H
 use Rattle.packing.specs.declared.GivenFields.{GivenFields}
 use Rattle.packing.specs.declared.GivenFields.the-variants.{Are, Nothing}
 use Rattle.packing.proofs.Theorems.{answer-back}
-use Rattle.host.specs.Host.{HostDecode, EncodesNumbers, HostEncode, HostPartner, HostExecute, HostPercent, HostRun, HostPrint, HostRead}
+use Rattle.host.specs.Host.{HostDecode, EncodesNumbers, HostEncode, HostPartner, HostExecute, HostPercent, HostRun, HostPrint, HostRead, HostVersion}
 
 -- an answer is known by its halves
 halves-known : (r q : ℕ) → halves r ≡ halves q → r ≡ q
@@ -69,3 +69,6 @@ print-unique settings word room r q room1 room2 e g =
 
 pub read-unique : (settings text : List ℕ) (r q : ℕ) → HostRead settings text r → HostRead settings text q → r ≡ q
 read-unique settings text r q e g = halves-known r q (reads-unique (settingsOf settings) text (halves r) (halves q) e g)
+
+pub version-unique : (r q : ℕ) → HostVersion r → HostVersion q → r ≡ q
+version-unique r q e g = e ∙ sym g

@@ -76,3 +76,9 @@ HostPrint settings word room r room′ = (halves r, room′) ≡ printPaper (set
 
 abbrev pub HostRead : List ℕ → List ℕ → ℕ → Type 0
 HostRead settings text r = Reads (settingsOf settings) text (halves r)
+
+-- ---- version
+
+-- of the library, 1.2.0: ten thousands are its major number, hundreds its minor one. `CALLINGLAMP_VERSION` of its header is the same.
+abbrev pub HostVersion : ℕ → Type 0
+HostVersion r = r ≡ 10200

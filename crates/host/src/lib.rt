@@ -1,6 +1,6 @@
 // The C interface: the public calls over numbers and arrays, as include/callinglamp.h declares them. It only unpacks what they take, and
 // packs what they answer.
-ghost use Rattle.host.specs.Host.{HostDecode, HostEncode, HostPartner, HostExecute, HostPercent, HostRun, HostPrint, HostRead};
+ghost use Rattle.host.specs.Host.{HostDecode, HostEncode, HostPartner, HostExecute, HostPercent, HostRun, HostPrint, HostRead, HostVersion};
 use packing::GivenFields;
 
 // The fields of a word, in `fields`. Refusals 1, 3.
@@ -88,4 +88,12 @@ pub extern "C" fn callinglamp_read(settings: &[u32; 7], text: &[u8]) -> u64
     ensures { λ r. ⌜ HostRead (now (settings .entry)) (now (text .entry)) r ⌝ }
 {
     packing::was_read(callinglamp::read_word(runlist::settings_of(settings), text))
+}
+
+// The version of the library that was linked, for a caller who was compiled with the header of another.
+#[no_mangle]
+pub extern "C" fn callinglamp_version() -> u32
+    ensures { λ r. ⌜ HostVersion r ⌝ }
+{
+    10200
 }
