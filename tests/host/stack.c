@@ -4,9 +4,9 @@
  * It ends with 0 where no call needs more than CALLINGLAMP_STACK, and with 1 otherwise.
  *
  * No frame of the library has a length that depends on what is given, and nothing in it calls itself, so that it is
- * enough to go every way once: words of every row, at each VL and under modes that permit them, lists of the most words,
- * and some that are refused. A run is first: where the program is linked dynamically, the C library looks up memcpy and
- * memset when they are first called, on this stack, and that is to be in the number too. */
+ * enough to go every way once: words of every row, at each VL and under modes that permit them, lists of the most
+ * words, and some that are refused. A run is first: where the program is linked dynamically, the C library looks up
+ * memset when it is first called, on this stack, and that is to be in the number too. */
 #define _XOPEN_SOURCE 700 /* for ucontext.h */
 #include "callinglamp.h"
 #include "choices.h"
