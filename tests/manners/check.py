@@ -312,7 +312,7 @@ def check_waiting(lamp, folder, way):
 def check_built_again(lamp):
     """By rt itself, of the program that it proves fastest."""
     folder = os.path.dirname(lamp)
-    shutil.copytree(os.path.join(ROOT, "target/rlib"), os.path.join(folder, "target/rlib"))
+    shutil.copytree(os.path.join(ROOT, "target/rlib"), os.path.join(folder, "target/rlib"), dirs_exist_ok=True)
     os.remove(os.path.join(folder, "target/bin/spell"))
     status, printed, told = run([os.path.join(folder, "spell")], b"C1A20008\n")
     due("target/bin/spell is gone", (status, printed[:7]) == (0, b"smlsll "), f"ended with {status}, said '{told}'")
