@@ -121,6 +121,7 @@ FILES = {
     "inst of a text": b".inst smlal v0.8h, v1.8b, v2.8b\n",
     "second": b"0E228020, 0E22802G\n",
     "two commas": b"0E228020,,C1A20008\n",
+    "last commas": b"0E228020,,\n",
     "first comma": b", 0E228020\n",
     "a comma": b"0E228020\n, # nothing else\n",
     "open": b"0E228020 /* a remark\n0E228020 */\n",
@@ -193,7 +194,7 @@ GOOD = {
         plain("03 88 80 88 8D 0C A0 80 8A 71 80 80 88 8D 0C", b"\x01" * 512, "80 01 0C 03 00 00 00 00"),
     ),
     "VL 256, no features, no words": (
-        ["--vl", "256", "--features", "none", "--modes", "none", "--fill", "A5"],
+        ["--vl", "256", "--features", "none", "--modes", "None", "--fill", "A5"],
         b"",
         plain("00", b"\xa5" * 1024, "80 02 00 00 00 00 00 00"),
     ),
@@ -261,7 +262,7 @@ GOOD = {
     "a file without a word": (PLAIN + ["--words", "none"], b"", plain("00")),
     "words in every form": (PLAIN + ["--words", "forms"], b"", plain("0C" + by_letters(FORMS_WORDS))),
     "arguments with commas and a comment": (
-        PLAIN + ["0x0E228020,", "0xC1A20008 ; undefined", ".inst 0x7F", "7F, 7F"],
+        PLAIN + ["0x0E228020,", "0xC1A20008 ; undefined", ".inst 0x7F", "7F,\n7F"],
         b"",
         plain("05" + WORD_B + WORD_D + "7F 7F 7F"),
     ),
@@ -384,7 +385,6 @@ BAD = [
     (PLAIN + ["00E228020"], ["word 1", "'00E228020'"]),
     (PLAIN + ["0x"], ["word 1", "'0x'"]),
     (PLAIN + ["0E_228020"], ["word 1", "'0E_228020'"]),
-    (PLAIN + [f"{TEXT_B}\n{TEXT_B}"], ["word 1", "no text"]),
     (PLAIN + [""], ["word 1", "''"]),
     (PLAIN + ["7F", " # a remark"], ["word 2", "no word"]),
     (PLAIN + ["7F", ","], ["word 2", "''"]),
@@ -398,6 +398,7 @@ BAD = [
     (PLAIN + ["--words", "inst of a text"], ["line 1", "'smlal'"]),
     (PLAIN + ["--words", "second"], ["second, line 1", "'0E22802G'"]),
     (PLAIN + ["--words", "two commas"], ["two commas, line 1", "''"]),
+    (PLAIN + ["--words", "last commas"], ["last commas, line 1", "''"]),
     (PLAIN + ["--words", "first comma"], ["first comma, line 1", "''"]),
     (PLAIN + ["--words", "a comma"], ["a comma, line 2", "''"]),
     (PLAIN + ["--words", "open"], ["open, line 1", "'/*'"]),
@@ -428,6 +429,7 @@ BAD_TEXTS = [
     (PLAIN + ["smlall za.s[w8, 0:3], { z0.b, z3.b }, { z4.b, z7.b }"], ["word 1", "{ z0.b, z3.b }", "refused 11"]),
     (PLAIN + [TEXT_D.replace("0:3", "0x0:0x13")], ["word 1", "0x0:0x13"]),
     (PLAIN + [f"{TEXT_B},"], ["word 1", "refused 11"]),
+    (PLAIN + [f"{TEXT_B}\n{TEXT_B}"], ["word 1", "refused 11"]),
     (PLAIN + ["C1A2000G, 0E228020"], ["word 1", "'C1A2000G, 0E228020'", "refused 11"]),
 ]
 
@@ -448,6 +450,21 @@ RUNS = [
         "words 2\n1 C1A20008 refused 4\n2 44BA3820 refused 4\n",
         "total 0 0 0\n",
         4,
+    ),
+    # The README's, of files that stand in examples/.
+    (
+        ["--vl", "512", "--features", "advsimd,sve2", "--seed", "1"]
+        + ["--words", os.path.join(ROOT, "examples/words.txt")],
+        "words 6\n1 0E228020 53 128 41\n",
+        "\n6 44F124E6 255 512 49\ntotal 723 1536 47\n",
+        8,
+    ),
+    (
+        ["--vl", "256", "--features", "31", "--modes", "sm,za", "--seed", "1"]
+        + ["--objdump", os.path.join(ROOT, "examples/kernel.objdump")],
+        "words 4\n1 C1A20000 997 2048 48\n",
+        "\n4 44BA2C09 109 256 42\ntotal 2198 4608 47\n",
+        6,
     ),
     # The longest: VL 512, the greatest select registers, and 1,024 words, each of which no layout matches.
     (
