@@ -613,7 +613,7 @@ def check_layouts():
 def check_run(arguments, begins, ends, lines):
     case = " ".join(arguments)[:100]
     made = mklist(arguments)
-    done = subprocess.run([os.path.join(ROOT, "lamp")], input=made.stdout, stdout=subprocess.PIPE, check=False)
+    done = subprocess.run([os.path.join(ROOT, "lamp")], input=made.stdout, capture_output=True, check=False)
     text = done.stdout.decode()
     if done.returncode != 0 or not text.startswith(begins) or not text.endswith(ends) or text.count("\n") != lines:
         differs(case, f"./lamp ended with {done.returncode}, and printed of the list\n{text[:200]}")
@@ -642,8 +642,9 @@ def main():
             file.write(contents)
     has_kit = shutil.which("rt") is not None
     if has_kit:
-        # What rt says where it has to prove ./spell first does not come from mklist.
-        subprocess.run([os.path.join(ROOT, "spell"), "--where"], stdout=subprocess.DEVNULL, check=True)
+        # What is said where a program has to be proved first does not come from mklist.
+        for program in ("lamp", "spell"):
+            subprocess.run([os.path.join(ROOT, program), "--where"], stdout=subprocess.DEVNULL, check=True)
     cases = cases_of(has_kit)
     for check, *arguments in cases:
         check(*arguments)
