@@ -4,6 +4,7 @@
  *
  * It ends with 0 where all is alike, with 1 at the first difference, which it prints, and with 2 where it is called
  * wrongly. */
+#include "callinglamp.h"
 #include "calls.h"
 #include "choices.h"
 #include "judge.h"
@@ -11,6 +12,14 @@
 
 #include <stdio.h>
 #include <stdlib.h>
+
+static int compare_version(void)
+{
+    if (callinglamp_version() == CALLINGLAMP_VERSION)
+        return 1;
+    printf("the library has version %u, and the header %d\n", (unsigned)callinglamp_version(), CALLINGLAMP_VERSION);
+    return 0;
+}
 
 static uint32_t seed_of(const char *text)
 {
@@ -35,7 +44,8 @@ int main(int argc, char **argv)
     make_rooms();
     compare_words();
     compare_steps();
-    int enough = compare_cases(seed) & compare_sweeps(seed);
+    int enough = compare_version();
+    enough &= compare_cases(seed) & compare_sweeps(seed);
     compare_runs(seed);
     enough &= compare_texts();
     enough &= print_summary();
