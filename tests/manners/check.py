@@ -321,6 +321,8 @@ def check_built_again(lamp):
 
 def main():
     start = time.monotonic()
+    # A program that waits for ever ends the test.
+    signal.alarm(300)
     for script in (LAMP, SPELL):
         subprocess.run([script, "--where"], stdout=subprocess.DEVNULL, check=True)
     check_statuses()
