@@ -1,4 +1,4 @@
-"""Holds ./lamp and ./spell to how they behave: how they end, what they say, and what they do where things are not as usual.
+"""Holds ./lamp and ./spell to how they behave: how they end, what they say, and what they do where things are odd.
 
 What proves and builds is tried in a copy of the repository with a stand-in for rt, since what the script makes of rt's
 words is tried here. With --rebuild one program is built anew by rt itself.
@@ -20,8 +20,8 @@ LAMP = os.path.join(ROOT, "lamp")
 SPELL = os.path.join(ROOT, "spell")
 NOBODY = 65534
 
-# What stands at the place of rt: it proves nothing, and tells three crates as rt does. The file `slow` in its folder has it
-# wait until the file is gone, and the file `fails` has it fail.
+# What stands at the place of rt: it proves nothing, and tells of three crates as rt does. The file `slow` in its folder
+# has it wait until the file is gone, and the file `fails` has it fail.
 STAND_IN = """#!/bin/sh
 here=$(dirname "$0")
 [ "$1" = check ] || exec "$(cat "$here/rt.path")" "$@"
@@ -31,7 +31,7 @@ echo 'rt: laws proved (unchanged since it was last proved)'
 echo 'rt: words proved (1 s)'
 touch "$here/begun"
 while [ -e "$here/slow" ]; do sleep 0.02; done
-[ -e "target/stamp/$2" ] || { mkdir -p target/bin target/stamp; cp "$here/built" "target/bin/$2"; : > "target/stamp/$2"; }
+[ -e "target/stamp/$2" ] || { cp "$here/built" "target/bin/$2"; : > "target/stamp/$2"; }
 echo "rt: $2 proved (1 s)"
 """
 
@@ -115,11 +115,13 @@ def check_arguments():
         for asked in ("--help", "-h"):
             status, printed, told = run([script, asked])
             due(f"{name} {asked}", (status, told) == (0, ""), f"ended with {status}, and said '{told}'")
-            whole = all(part in printed for part in (b"./" + name.encode(), b"--where", b"ends with 0", b"1 where", b"3 where"))
+            parts = [b"./" + name.encode(), b"--where", b"ends with 0", b"1 where", b"2 where", b"3 where"]
+            whole = all(part in printed for part in parts)
             due(f"{name} {asked}", whole and b"#!" not in printed and b"exec" not in printed, f"printed {printed}")
     bare = dict(os.environ, PATH=os.path.dirname(shutil.which("bash")) + ":/usr/bin:/bin")
     if shutil.which("rt", path=bare["PATH"]) is None:
-        check_run("no kit", [LAMP], b"", 2, b"", ["lamp: rt, the command of the Rattle kit, is not on the path"], env=bare)
+        said = ["lamp: rt, the command of the Rattle kit, is not on the path"]
+        check_run("no kit", [LAMP], b"", 2, b"", said, env=bare)
 
 
 # ---- where input and output are not as usual
@@ -182,7 +184,8 @@ def check_input_that_does_not_block():
         ours.close()
         printed, told = lamp.communicate(timeout=60)
         expected = (0, contents("examples/three.out")) if blocks else (2, b"")
-        due(f"a socket, blocking {blocks}", (lamp.returncode, printed) == expected, f"{lamp.returncode} {printed} {told}")
+        got = (lamp.returncode, printed)
+        due(f"a socket, blocking {blocks}", got == expected, f"ended and printed {got}, and said {told}")
 
 
 def check_output_that_does_not_block():
@@ -200,8 +203,9 @@ def check_output_that_does_not_block():
     time.sleep(0.5)
     with os.fdopen(reading, "rb") as output:
         printed = output.read()
-    due("an output pipe that does not block", printed == whole and len(whole) > 4096, f"printed {len(printed)} of {len(whole)} bytes")
-    due("an output pipe that does not block", lamp.wait(60) == 0, f"ended with {lamp.returncode}")
+    case = "an output pipe that does not block"
+    due(case, printed == whole and len(whole) > 4096, f"printed {len(printed)} of {len(whole)} bytes")
+    due(case, lamp.wait(60) == 0, f"ended with {lamp.returncode}")
     lamp.stderr.close()
 
 
@@ -225,8 +229,9 @@ def check_terminal():
 def check_link():
     os.symlink(LAMP, "by-link")
     os.symlink("by-link", "by-two-links")
+    three, printed = contents("examples/three.list"), contents("examples/three.out")
     for link in ("./by-link", "./by-two-links"):
-        check_run(link, [link], contents("examples/three.list"), 0, contents("examples/three.out"), refused("lamp", [3]))
+        check_run(link, [link], three, 0, printed, refused("lamp", [3]))
 
 
 def copy_repository(to):
@@ -251,9 +256,9 @@ def may_write(folder, may):
 
 def check_folder_that_cannot_be_written(lamp):
     folder = os.path.dirname(lamp)
-    three = contents("examples/three.list")
+    three, printed = contents("examples/three.list"), contents("examples/three.out")
     may_write(folder, False)
-    check_run("built, not to be written", [lamp], three, 0, contents("examples/three.out"), refused("lamp", [3]), **as_nobody())
+    check_run("built, not to be written", [lamp], three, 0, printed, refused("lamp", [3]), **as_nobody())
     may_write(folder, True)
     os.remove(os.path.join(folder, "target/lamp.checked"))
     may_write(folder, False)
@@ -297,10 +302,11 @@ def check_first_use(lamp, folder, way):
 def check_waiting(lamp, folder, way):
     touch(os.path.join(folder, "slow"))
     os.remove(os.path.join(folder, "begun"))
-    calls = [subprocess.Popen([lamp], stdin=subprocess.PIPE, stdout=subprocess.PIPE, stderr=subprocess.PIPE, env=way)]
+    pipes = {name: subprocess.PIPE for name in ("stdin", "stdout", "stderr")}
+    calls = [subprocess.Popen([lamp], env=way, **pipes)]
     while not os.path.exists(os.path.join(folder, "begun")):
         time.sleep(0.02)
-    calls.append(subprocess.Popen([lamp], stdin=subprocess.PIPE, stdout=subprocess.PIPE, stderr=subprocess.PIPE, env=way))
+    calls.append(subprocess.Popen([lamp], env=way, **pipes))
     told = calls[1].stderr.readline().decode()
     os.remove(os.path.join(folder, "slow"))
     due("a call that waits", "lamp: another" in told and "wait" in told, f"said '{told}'")
