@@ -209,18 +209,34 @@ def check_output_that_does_not_block():
     lamp.stderr.close()
 
 
-def check_terminal():
+def check_named_pipe():
+    os.mkfifo("named")
+    reading = os.open("named", os.O_RDONLY | os.O_NONBLOCK)
+    writing = os.open("named", os.O_WRONLY)
+    lamp = subprocess.Popen([LAMP], stdin=reading, stdout=subprocess.PIPE, stderr=subprocess.PIPE)
+    os.close(reading)
+    printed, told = lamp.communicate(timeout=60)
+    os.close(writing)
+    due("a named pipe", (lamp.returncode, printed) == (2, b""), f"ended with {lamp.returncode}, printed {printed}")
+    due("a named pipe", told.startswith(b"lamp: standard input does not block"), f"said '{told}'")
+
+
+def check_terminal(blocks):
     main, terminal = pty.openpty()
+    if not blocks:
+        does_not_block(terminal)
     spell = subprocess.Popen([SPELL], stdin=terminal, stdout=subprocess.PIPE, stderr=subprocess.PIPE)
     os.close(terminal)
+    time.sleep(0 if blocks else 0.3)
     os.write(main, b"0E238041\n")
     # The answer comes before the input ends.
     first = spell.stdout.readline()
     os.write(main, b"\x04")
     rest, told = spell.communicate(timeout=60)
     os.close(main)
-    due("a terminal", first + rest == b"smlal v1.8h, v2.8b, v3.8b\n", f"printed {first + rest}")
-    due("a terminal", told == b"spell: reads LINES from the terminal; Ctrl-D ends it\n", f"said '{told}'")
+    case = f"a terminal, blocking {blocks}"
+    due(case, first + rest == b"smlal v1.8h, v2.8b, v3.8b\n", f"printed {first + rest}")
+    due(case, told == b"spell: reads LINES from the terminal; Ctrl-D ends it\n", f"said '{told}'")
 
 
 # ---- where it stands, and what is built
@@ -337,7 +353,9 @@ def main():
     check_reader_gone()
     check_input_that_does_not_block()
     check_output_that_does_not_block()
-    check_terminal()
+    check_named_pipe()
+    for blocks in (True, False):
+        check_terminal(blocks)
     check_link()
     lamp = copy_repository(os.path.join(os.getcwd(), "copy"))
     run([lamp])
