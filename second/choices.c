@@ -47,6 +47,15 @@ void fill(uint8_t *bytes, size_t length, uint32_t kind, uint32_t seed)
     }
 }
 
+uint32_t ones_in(const uint8_t *bytes, size_t length)
+{
+    uint32_t ones = 0;
+    for (size_t i = 0; i < length; i++)
+        for (unsigned byte = bytes[i]; byte != 0; byte >>= 1)
+            ones += byte & 1;
+    return ones;
+}
+
 /* Choices. Their generator is not the contents' one, so that the two do not run in step. */
 
 static uint32_t chooser;

@@ -1,5 +1,5 @@
-/* What cases, sweeps and lists are made of: contents made from a kind and a seed, and fields, words and settings by
- * choice. README.md says how contents are made. */
+/* What cases, sweeps and lists are made of: contents made from a kind and a seed, and their ones; and fields, words and
+ * settings by choice. README.md says how contents are made. */
 #ifndef CHOICES_H
 #define CHOICES_H
 
@@ -10,6 +10,9 @@ enum { FILL_RANDOM = 0, FILL_MIXED = 9, FILL_KINDS = 10 };
 extern const uint32_t vls[3];
 
 void fill(uint8_t *bytes, size_t length, uint32_t kind, uint32_t seed);
+
+/* How many bits of the bytes are 1, counted bit by bit. */
+uint32_t ones_in(const uint8_t *bytes, size_t length);
 
 /* A seed that is not 0 fixes all the choices that follow. */
 void start_choosing(uint32_t seed);

@@ -29,8 +29,8 @@ static size_t words_place(const uint8_t *list, size_t list_len, uint32_t vl)
 void print_run(FILE *out, const uint8_t *list, size_t list_len)
 {
     static uint8_t z[SECOND_MOST_Z], za[SECOND_MOST_ZA];
-    static uint32_t report[3 * SECOND_MOST_WORDS];
-    uint32_t vl = vl_of(list, list_len), count, toggled = 0, written = 0;
+    static uint32_t report[SECOND_PER_WORD * SECOND_MOST_WORDS];
+    uint32_t vl = vl_of(list, list_len), count, all_toggled = 0, all_written = 0;
     size_t place;
     int refusal = second_run(list, list_len, z, second_z_length(vl), za, second_za_length(vl), report,
                              sizeof report / sizeof *report, &place, &count);
@@ -41,20 +41,20 @@ void print_run(FILE *out, const uint8_t *list, size_t list_len)
     fprintf(out, "words %u\n", (unsigned)count);
     place = words_place(list, list_len, vl);
     for (uint32_t i = 0; i < count; i++) {
-        const uint32_t *row = report + 3 * (size_t)i;
-        uint32_t word = 0;
+        const uint32_t *row = report + SECOND_PER_WORD * (size_t)i;
+        uint32_t word = 0, toggled = row[1] + row[2];
         second_read_number(list, list_len, &place, &word);
         fprintf(out, "%u %08X ", (unsigned)(i + 1), (unsigned)word);
         if (row[0] != SECOND_ACCEPTED)
             fprintf(out, "refused %u\n", (unsigned)row[0]);
         else
-            fprintf(out, "%u %u %llu\n", (unsigned)row[1], (unsigned)row[2],
-                    (unsigned long long)second_percent(row[1], row[2]));
-        toggled += row[1];
-        written += row[2];
+            fprintf(out, "%u %u %llu\n", (unsigned)toggled, (unsigned)row[3],
+                    (unsigned long long)second_percent(toggled, row[3]));
+        all_toggled += toggled;
+        all_written += row[3];
     }
-    fprintf(out, "total %u %u %llu\n", (unsigned)toggled, (unsigned)written,
-            (unsigned long long)second_percent(toggled, written));
+    fprintf(out, "total %u %u %llu\n", (unsigned)all_toggled, (unsigned)all_written,
+            (unsigned long long)second_percent(all_toggled, all_written));
 }
 
 static int run_command(void)

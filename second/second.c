@@ -293,14 +293,23 @@ static inline int64_t signed_element(const uint8_t *vector, unsigned element, un
     return (int64_t)factor(vector, element, width, false);
 }
 
-/* Puts the new bytes in place and counts the bits that this changes. */
-static uint32_t replace(uint8_t *old, const uint8_t *new, size_t bytes)
+/* How many bits have become 1, and how many 0. */
+struct toggles {
+    uint32_t rises, falls;
+};
+
+/* Puts the new bytes in place and counts the bits that this changes: of those that differ, the ones of the new bytes
+ * have risen, and the ones of the old bytes have fallen. */
+static struct toggles replace(uint8_t *old, const uint8_t *new, size_t bytes)
 {
-    uint32_t toggled = 0;
-    for (size_t i = 0; i < bytes; i += 8)
-        toggled += (uint32_t)__builtin_popcountll(load(old + i, 64) ^ load(new + i, 64));
+    struct toggles t = {0, 0};
+    for (size_t i = 0; i < bytes; i += 8) {
+        uint64_t was = load(old + i, 64), is = load(new + i, 64), differ = was ^ is;
+        t.rises += (uint32_t)__builtin_popcountll(differ & is);
+        t.falls += (uint32_t)__builtin_popcountll(differ & was);
+    }
     memcpy(old, new, bytes);
-    return toggled;
+    return t;
 }
 
 /* Steps of A and B, into `new`: the destination may be a source, so it changes only when all is read. */
@@ -317,7 +326,7 @@ static inline void half_step(const struct second_fields *f, const uint8_t *n, co
     }
 }
 
-static uint32_t execute_ab(const struct second_settings *s, const struct second_fields *f, uint8_t *z)
+static struct toggles execute_ab(const struct second_settings *s, const struct second_fields *f, uint8_t *z)
 {
     size_t bytes = s->vl / 8;
     const uint8_t *n = z + f->first * bytes, *m = z + f->second * bytes;
@@ -362,7 +371,7 @@ static inline void segment_step(const struct second_fields *f, const uint8_t *n,
     }
 }
 
-static uint32_t execute_c(const struct second_settings *s, const struct second_fields *f, uint8_t *z)
+static struct toggles execute_c(const struct second_settings *s, const struct second_fields *f, uint8_t *z)
 {
     size_t bytes = s->vl / 8;
     const uint8_t *n = z + f->first * bytes, *m = z + f->second * bytes;
@@ -387,13 +396,14 @@ static inline void outer_step(const struct second_fields *f, const uint8_t *n, c
     }
 }
 
-static uint32_t execute_de(const struct second_settings *s, const struct second_fields *f, const uint8_t *z,
-                           uint8_t *za)
+static struct toggles execute_de(const struct second_settings *s, const struct second_fields *f, const uint8_t *z,
+                                 uint8_t *za)
 {
     uint32_t bytes = s->vl / 8, stride = bytes / f->group, k = f->family == SECOND_FAMILY_D ? 4 : 2;
     /* The paper adds numbers: at the top of 32 bits the sum must not come round before the remainder is taken. */
     uint64_t sum = (uint64_t)s->w[f->select - 8] + f->offset;
-    uint32_t first = (uint32_t)(sum % stride) / k * k, toggled = 0;
+    uint32_t first = (uint32_t)(sum % stride) / k * k;
+    struct toggles all = {0, 0};
     for (uint32_t r = 0; r < f->group; r++) {
         const uint8_t *n = z + (size_t)(f->first + r) * bytes, *m = z + (size_t)(f->second + r) * bytes;
         for (uint32_t i = 0; i < k; i++) {
@@ -404,10 +414,12 @@ static uint32_t execute_de(const struct second_settings *s, const struct second_
                 outer_step(f, n, m, old, new, s->vl, 4, i, 8);
             else
                 outer_step(f, n, m, old, new, s->vl, 4, i, 16);
-            toggled += replace(old, new, bytes);
+            struct toggles t = replace(old, new, bytes);
+            all.rises += t.rises;
+            all.falls += t.falls;
         }
     }
-    return toggled;
+    return all;
 }
 
 static bool mode_permits(const struct second_settings *s, uint32_t family)
@@ -424,13 +436,13 @@ static bool mode_permits(const struct second_settings *s, uint32_t family)
 }
 
 /* Execute past the tests of settings and lengths. */
-static int execute_valid(const struct second_settings *s, uint32_t word, uint8_t *z, uint8_t *za, uint32_t *toggled,
-                         uint32_t *written)
+static int execute_valid(const struct second_settings *s, uint32_t word, uint8_t *z, uint8_t *za,
+                         struct second_counts *counts)
 {
     struct second_fields f;
+    struct toggles t;
     int refusal = decode_valid(s, word, &f);
-    *toggled = 0;
-    *written = 0;
+    memset(counts, 0, sizeof *counts);
     if (refusal != SECOND_ACCEPTED)
         return refusal;
     if (!mode_permits(s, f.family))
@@ -438,31 +450,32 @@ static int execute_valid(const struct second_settings *s, uint32_t word, uint8_t
     switch (f.family) {
     case SECOND_FAMILY_A:
     case SECOND_FAMILY_B:
-        *toggled = execute_ab(s, &f, z);
-        *written = 128;
+        t = execute_ab(s, &f, z);
+        counts->written = 128;
         break;
     case SECOND_FAMILY_C:
-        *toggled = execute_c(s, &f, z);
-        *written = s->vl;
+        t = execute_c(s, &f, z);
+        counts->written = s->vl;
         break;
     default:
-        *toggled = execute_de(s, &f, z, za);
-        *written = s->vl * f.group * (f.family == SECOND_FAMILY_D ? 4 : 2);
+        t = execute_de(s, &f, z, za);
+        counts->written = s->vl * f.group * (f.family == SECOND_FAMILY_D ? 4 : 2);
         break;
     }
+    counts->rises = t.rises;
+    counts->falls = t.falls;
     return SECOND_ACCEPTED;
 }
 
 int second_execute(const struct second_settings *settings, uint32_t word, uint8_t *z, size_t z_len, uint8_t *za,
-                   size_t za_len, uint32_t *toggled, uint32_t *written)
+                   size_t za_len, struct second_counts *counts)
 {
-    *toggled = 0;
-    *written = 0;
+    memset(counts, 0, sizeof *counts);
     if (!valid_settings(settings))
         return SECOND_BAD_SETTINGS;
     if (z_len != second_z_length(settings->vl) || za_len != second_za_length(settings->vl))
         return SECOND_BAD_LENGTH;
-    return execute_valid(settings, word, z, za, toggled, written);
+    return execute_valid(settings, word, z, za, counts);
 }
 
 uint64_t second_percent(uint32_t toggled, uint32_t written)
@@ -524,7 +537,7 @@ static int hear_words(const uint8_t *list, size_t list_len, size_t *place, size_
         *place = count_place;
         return SECOND_TOO_MANY_WORDS;
     }
-    if (report_len < 3 * (size_t)h->count)
+    if (report_len < SECOND_PER_WORD * (size_t)h->count)
         return SECOND_BAD_LENGTH;
     for (uint32_t i = 0; i < h->count; i++) {
         refusal = second_read_number(list, list_len, place, &h->words[i]);
@@ -565,8 +578,12 @@ int second_run(const uint8_t *list, size_t list_len, uint8_t *z, size_t z_len, u
     memcpy(z, list + h.z_place, z_len);
     memset(za, 0, za_len);
     for (uint32_t i = 0; i < h.count; i++) {
-        uint32_t *row = report + 3 * (size_t)i;
-        row[0] = (uint32_t)execute_valid(&h.settings, h.words[i], z, za, &row[1], &row[2]);
+        uint32_t *row = report + SECOND_PER_WORD * (size_t)i;
+        struct second_counts counts;
+        row[0] = (uint32_t)execute_valid(&h.settings, h.words[i], z, za, &counts);
+        row[1] = counts.rises;
+        row[2] = counts.falls;
+        row[3] = counts.written;
     }
     *report_words = h.count;
     return SECOND_ACCEPTED;

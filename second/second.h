@@ -1,4 +1,5 @@
-/* The second program's library: document 01 and request One of document 02 in C, for holding the proved library to.
+/* The second program's library: document 01 and requests One and Two of document 02 in C. The proved library is held to
+ * it.
  *
  * Every call returns a refusal number of these papers, or 0. A refused call puts zeros in its small answers (fields, a
  * word, counts, a place, a length) and leaves every lent buffer (Z, ZA, report, room) as it was. */
@@ -79,12 +80,22 @@ int second_print(const struct second_settings *settings, uint32_t word, char *ro
 /* Reads a text, which may hold any bytes. */
 int second_read(const struct second_settings *settings, const char *text, size_t text_len, uint32_t *word);
 
+/* The bits of Z and ZA that were 0 and are 1, those that were 1 and are 0, and how many were written. Toggled is rises
+ * plus falls. */
+struct second_counts {
+    uint32_t rises;
+    uint32_t falls;
+    uint32_t written;
+};
+
 int second_execute(const struct second_settings *settings, uint32_t word, uint8_t *z, size_t z_len, uint8_t *za,
-                   size_t za_len, uint32_t *toggled, uint32_t *written);
+                   size_t za_len, struct second_counts *counts);
 
 uint64_t second_percent(uint32_t toggled, uint32_t written);
 
-/* `report_len` counts numbers, not bytes. `report_words` of an accepted list is its count n. */
+/* A report has so many numbers for each word: the refusal or 0, rises, falls, written. `report_len` counts numbers, not
+ * bytes. `report_words` of an accepted list is its count n. */
+enum { SECOND_PER_WORD = 4 };
 int second_run(const uint8_t *list, size_t list_len, uint8_t *z, size_t z_len, uint8_t *za, size_t za_len,
                uint32_t *report, size_t report_len, size_t *place, uint32_t *report_words);
 

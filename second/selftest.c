@@ -20,11 +20,33 @@ static void check(int holds, const char *what)
     }
 }
 
+/* Every execution of this file goes this way. Refused or not, ones and falls after it are ones before it and rises, and
+ * the bits that differ are as many as rises and falls. Both together leave no other numbers for the two. */
+static int execute(const struct second_settings *s, uint32_t word, uint8_t *z, size_t z_len, uint8_t *za, size_t za_len,
+                   struct second_counts *c)
+{
+    static uint8_t z_differ[SECOND_MOST_Z + 1], za_differ[SECOND_MOST_ZA + 1];
+    uint32_t before = ones_in(z, z_len) + ones_in(za, za_len);
+    memcpy(z_differ, z, z_len);
+    memcpy(za_differ, za, za_len);
+    memset(c, 0xA5, sizeof *c);
+    int refusal = second_execute(s, word, z, z_len, za, za_len, c);
+    for (size_t i = 0; i < z_len; i++)
+        z_differ[i] ^= z[i];
+    for (size_t i = 0; i < za_len; i++)
+        za_differ[i] ^= za[i];
+    check(ones_in(z, z_len) + ones_in(za, za_len) + c->falls == before + c->rises, "execute: the balance");
+    check(ones_in(z_differ, z_len) + ones_in(za_differ, za_len) == c->rises + c->falls, "execute: toggled is the sum");
+    check(refusal == 0 ? c->rises + c->falls <= c->written : c->rises == 0 && c->falls == 0 && c->written == 0,
+          "execute: counts within written, and zeros of a refusal");
+    return refusal;
+}
+
 /* One machine at VL 128, the bench's own. */
 static struct bench {
     struct second_settings s;
     uint8_t z[512], za[256];
-    uint32_t toggled, written;
+    struct second_counts c;
 } b;
 
 static void set_up(uint32_t features, uint32_t modes, uint8_t byte)
@@ -38,7 +60,17 @@ static void set_up(uint32_t features, uint32_t modes, uint8_t byte)
 
 static int step(uint32_t word)
 {
-    return second_execute(&b.s, word, b.z, sizeof b.z, b.za, sizeof b.za, &b.toggled, &b.written);
+    return execute(&b.s, word, b.z, sizeof b.z, b.za, sizeof b.za, &b.c);
+}
+
+static int counted(uint32_t rises, uint32_t falls, uint32_t written)
+{
+    return b.c.rises == rises && b.c.falls == falls && b.c.written == written;
+}
+
+static uint64_t percent(void)
+{
+    return second_percent(b.c.rises + b.c.falls, b.c.written);
 }
 
 static int decoded(uint32_t features, uint32_t word, struct second_fields *f)
@@ -63,21 +95,23 @@ static int lanes_are(uint32_t lane16)
     return 1;
 }
 
+/* Rises and falls of the rows were worked out by hand. */
 static void rows_of_ab(void)
 {
     struct second_fields f;
+    /* In each of 8 lanes 0101 becomes 0102: bit 1 rises and bit 0 falls. */
     set_up(1, 0, 1);
-    check(step(0x0E228020) == 0 && lanes_are(0x0102) && b.toggled == 16 && b.written == 128, "P1");
-    check(second_percent(b.toggled, b.written) == 12, "P1 percent");
+    check(step(0x0E228020) == 0 && lanes_are(0x0102) && counted(8, 8, 128), "P1");
+    check(percent() == 12, "P1 percent");
     set_up(1, 0, 1);
-    check(step(0x0E22A020) == 0 && lanes_are(0x0100) && b.toggled == 8 && b.written == 128, "P2");
-    check(second_percent(b.toggled, b.written) == 6, "P2 percent");
+    check(step(0x0E22A020) == 0 && lanes_are(0x0100) && counted(0, 8, 128), "P2");
+    check(percent() == 6, "P2 percent");
     set_up(1, 0, 0xFF);
     memset(b.z, 0, 16);
-    check(step(0x0E228020) == 0 && little(b.z, 2) == 0x0001, "P3");
+    check(step(0x0E228020) == 0 && little(b.z, 2) == 0x0001 && counted(8, 0, 128), "P3");
     set_up(1, 0, 0xFF);
     memset(b.z, 0, 16);
-    check(step(0x2E228020) == 0 && little(b.z, 2) == 0xFE01, "P4");
+    check(step(0x2E228020) == 0 && little(b.z, 2) == 0xFE01 && counted(64, 0, 128), "P4");
     struct second_fields p5 = {.family = SECOND_FAMILY_A, .is_unsigned = 1, .subtract = 1, .lane = 16, .index = 7,
                                .first = 1, .second = 2, .group = 1};
     check(decoded(1, 0x2F726820, &f) == 0 && memcmp(&f, &p5, sizeof f) == 0, "P5");
@@ -94,14 +128,15 @@ static void rows_of_c(void)
     set_up(2, 0, 0);
     for (int e = 0; e < 16; e++)
         b.z[16 + 2 * e + 1] = 0x80;
-    check(step(0x44BA3820) == 0 && little(b.z, 4) == 0x80000001, "P9");
+    check(step(0x44BA3820) == 0 && little(b.z, 4) == 0x80000001 && counted(8, 0, 128), "P9");
     memset(b.z, 0xFF, 16);
-    check(step(0x44BA2820) == 0 && little(b.z, 4) == 2147483646, "P10");
+    check(step(0x44BA2820) == 0 && little(b.z, 4) == 2147483646 && counted(0, 8, 128), "P10");
     /* The fourth of the mistakes that look right, at lane 32: the add form from 0 reaches the top and no further. */
     set_up(2, 0, 0);
     for (int e = 0; e < 8; e++)
         b.z[16 + 4 * e + 3] = 0x80;
     check(step(0x44E22020) == 0 && little(b.z, 4) == 0xFFFFFFFF && little(b.z + 4, 4) == 0x7FFFFFFF, "2^63 clamped");
+    check(counted(126, 0, 128), "2^63 clamped: 63 bits of each of two elements rise");
 }
 
 /* Whether exactly the vectors whose bits are set in `which` have changed from zero. */
@@ -121,15 +156,18 @@ static void rows_of_de(void)
     check(decoded(12, 0xC1E20008, &f) == 3 && decoded(28, 0xC1E20008, &f) == 0, "P11");
     set_up(12, 3, 1);
     b.s.w[0] = 7;
-    check(step(0xC1A20008) == 0 && vectors_are(0xF0F0), "P12");
+    /* 0 less 1 sets every bit of 8 vectors, and 1 more clears them. */
+    check(step(0xC1A20008) == 0 && vectors_are(0xF0F0) && counted(1024, 0, 1024), "P12");
+    check(step(0xC1A20000) == 0 && vectors_are(0) && counted(0, 1024, 1024), "P12 and its partner");
     set_up(12, 3, 1);
     b.s.w[0] = 1;
-    check(step(0xC1E20800) == 0 && vectors_are(0x0303), "P13");
+    /* 0101 squared is 00010201: three bits of each of 16 elements. */
+    check(step(0xC1E20800) == 0 && vectors_are(0x0303) && counted(48, 0, 512), "P13");
     check(second_percent(1023, 1024) == 99, "row 14");
     /* 2^32-1 with offset 4 is 2^32+3: at stride 8 that is vector 3, rounded down to 0. */
     set_up(12, 3, 1);
     b.s.w[0] = UINT32_MAX;
-    check(step(0xC1A20001) == 0 && vectors_are(0x0F0F), "W at the top");
+    check(step(0xC1A20001) == 0 && vectors_are(0x0F0F) && counted(32, 0, 1024), "W at the top");
     check(second_percent(UINT32_MAX, 1) == 429496729500u && second_percent(5, 0) == 0, "percent beyond 100");
 }
 
@@ -160,34 +198,74 @@ struct answer {
     int untouched;
 };
 
-static struct answer run(size_t length, size_t z_len, size_t za_len, size_t report_len)
+enum { REPORT = SECOND_PER_WORD * SECOND_MOST_WORDS };
+
+/* What the last run left. */
+static struct {
+    uint8_t z[SECOND_MOST_Z + 1], za[SECOND_MOST_ZA + 1];
+    uint32_t report[REPORT + 1];
+} left;
+
+static int untouched(void)
 {
-    static uint8_t z[2049], za[4097];
-    static uint32_t report[3 * SECOND_MOST_WORDS + 1];
+    const uint8_t *bytes = (const uint8_t *)&left;
+    for (size_t i = 0; i < sizeof left; i++)
+        if (bytes[i] != 0xA5)
+            return 0;
+    return 1;
+}
+
+/* An accepted list has seven numbers before its Z, and each of them ends with the first byte below 128. */
+static const uint8_t *z_of(const uint8_t *bytes)
+{
+    for (int numbers = 0; numbers < 7; bytes++)
+        numbers += *bytes < 128;
+    return bytes;
+}
+
+/* Of a run that was accepted: ones and falls at the end are ones at the start and rises. ZA starts at zero. */
+static void check_balance(const uint8_t *bytes, size_t z_len, size_t za_len, uint32_t words)
+{
+    uint32_t rises = 0, falls = 0;
+    for (uint32_t i = 0; i < words; i++) {
+        const uint32_t *row = left.report + SECOND_PER_WORD * i;
+        rises += row[1];
+        falls += row[2];
+        check(row[0] == 0 ? row[1] + row[2] <= row[3] : row[1] == 0 && row[2] == 0 && row[3] == 0, "a row of a report");
+    }
+    check(ones_in(left.z, z_len) + ones_in(left.za, za_len) + falls == ones_in(z_of(bytes), z_len) + rises,
+          "run: the balance");
+    check(left.report[SECOND_PER_WORD * words] == 0xA5A5A5A5, "the rest of the report stays");
+}
+
+/* Every run of this file whose answer is looked at goes this way. */
+static struct answer run_list(const uint8_t *bytes, size_t length, size_t z_len, size_t za_len, size_t report_len)
+{
     struct answer a;
-    memset(z, 0xA5, sizeof z);
-    memset(za, 0xA5, sizeof za);
-    memset(report, 0xA5, sizeof report);
+    memset(&left, 0xA5, sizeof left);
     /* A copy of just this length lets the sanitizer see a read past the list's end. */
     uint8_t *exact = malloc(length + (length == 0));
     if (exact == NULL)
         abort();
-    memcpy(exact, list.bytes, length);
-    a.refusal = second_run(exact, length, z, z_len, za, za_len, report, report_len, &a.place, &a.words);
+    memcpy(exact, bytes, length);
+    a.refusal = second_run(exact, length, left.z, z_len, left.za, za_len, left.report, report_len, &a.place, &a.words);
     free(exact);
-    a.untouched = 1;
-    for (size_t i = 0; i < sizeof z; i++)
-        a.untouched &= z[i] == 0xA5;
-    for (size_t i = 0; i < sizeof za; i++)
-        a.untouched &= za[i] == 0xA5;
-    for (size_t i = 0; i < sizeof report / sizeof *report; i++)
-        a.untouched &= report[i] == 0xA5A5A5A5;
+    a.untouched = untouched();
+    if (a.refusal == 0)
+        check_balance(bytes, z_len, za_len, a.words);
+    else
+        check(a.untouched && a.words == 0, "a refused list changes nothing");
     return a;
+}
+
+static struct answer run(size_t length, size_t z_len, size_t za_len, size_t report_len)
+{
+    return run_list(list.bytes, length, z_len, za_len, report_len);
 }
 
 static void refused(size_t length, int refusal, size_t place, const char *what)
 {
-    struct answer a = run(length, 512, 256, 3072);
+    struct answer a = run(length, 512, 256, REPORT);
     check(a.refusal == refusal && a.place == place && a.words == 0 && a.untouched, what);
 }
 
@@ -203,6 +281,29 @@ static void put_example(void)
     list.length += sizeof tail;
 }
 
+/* What is printed is what a run answers that has the lengths of the own VL: its refusal, or the sums of its report. */
+static void check_text(const char *text, const uint8_t *bytes, size_t length)
+{
+    uint32_t vl = 0, toggled = 0, written = 0;
+    size_t at = 0;
+    char due[64];
+    second_read_number(bytes, length, &at, &vl);
+    if (vl != 256 && vl != 512)
+        vl = 128;
+    struct answer a = run_list(bytes, length, second_z_length(vl), second_za_length(vl), REPORT);
+    for (const uint32_t *row = left.report; row < left.report + SECOND_PER_WORD * a.words; row += SECOND_PER_WORD) {
+        toggled += row[1] + row[2];
+        written += row[3];
+    }
+    if (a.refusal != 0)
+        snprintf(due, sizeof due, "refused %d at %zu\n", a.refusal, a.place);
+    else
+        snprintf(due, sizeof due, "total %u %u %llu\n", (unsigned)toggled, (unsigned)written,
+                 (unsigned long long)second_percent(toggled, written));
+    size_t last = strlen(text) >= strlen(due) ? strlen(text) - strlen(due) : 0;
+    check(strcmp(text + last, due) == 0, "the last line that is printed");
+}
+
 /* What the list program prints. It is lent until the next call. */
 static const char *text_of(const uint8_t *bytes, size_t length)
 {
@@ -215,6 +316,7 @@ static const char *text_of(const uint8_t *bytes, size_t length)
     size_t got = fread(text, 1, sizeof text - 1, out);
     text[got] = '\0';
     fclose(out);
+    check_text(text, bytes, length);
     return text;
 }
 
@@ -246,6 +348,35 @@ static void lists(void)
     printed("words 0\ntotal 0 0 0\n", "no words");
 }
 
+static int report_is(const uint32_t *due, uint32_t words)
+{
+    return memcmp(left.report, due, SECOND_PER_WORD * words * sizeof *due) == 0;
+}
+
+/* Reports that were worked out by hand. In the first list all bits of 8 vectors rise from 0, and then fall. In the
+ * second the 8 lanes of register 0 are 0101, 0102, 0103, 0104 and, by the partners, 0103, 0102, 0101: from 0103 to 0104
+ * bit 2 rises and bits 0 and 1 fall, and a partner's rises are its word's falls. */
+static void reports(void)
+{
+    static const uint32_t example[] = {0, 1024, 0, 1024, 3, 0, 0, 0, 0, 0, 1024, 1024};
+    static const uint32_t lanes[] = {0, 8,  8, 128, 0, 8, 0, 128, 0, 8, 16, 128, 4, 0, 0, 0,
+                                     0, 16, 8, 128, 0, 0, 8, 128, 0, 8, 8,  128};
+    static const uint32_t words[] = {0x0E228020, 0x0E228020, 0x0E228020, 0xC1A20008, 0x0E22A020, 0x0E22A020,
+                                     0x0E22A020};
+    put_example();
+    check(run(list.length, 512, 256, REPORT).refusal == 0 && report_is(example, 3), "the example list's report");
+    put_head(128, 31, 0);
+    put_z();
+    put_number(&list, 7);
+    for (int i = 0; i < 7; i++)
+        put_number(&list, words[i]);
+    check(run(list.length, 512, 256, 28).refusal == 0 && report_is(lanes, 7), "a report of rises and falls");
+    check(memcmp(left.z, z_of(list.bytes), 512) == 0, "a run that leads back");
+    printed("words 7\n1 0E228020 16 128 12\n2 0E228020 8 128 6\n3 0E228020 24 128 18\n4 C1A20008 refused 4\n"
+            "5 0E22A020 24 128 18\n6 0E22A020 8 128 6\n7 0E22A020 16 128 12\ntotal 96 768 12\n",
+            "its lines have toggled");
+}
+
 static void numbers(void)
 {
     memset(list.bytes, 0x80, 8);
@@ -275,10 +406,10 @@ static void list_settings(void)
     refused(list.length, 1, 0, "list: modes 4");
     put_head(128, 12, 3);
     refused(list.length - 1, 7, list.length - 1, "list: settings wait for W11");
-    check(run(list.length, 511, 256, 3072).refusal == 2, "list: Z short");
-    check(run(list.length, 513, 256, 3072).refusal == 2, "list: Z long");
-    check(run(list.length, 512, 255, 3072).refusal == 2, "list: ZA short");
-    check(run(list.length, 512, 257, 3072).refusal == 2, "list: ZA long");
+    check(run(list.length, 511, 256, REPORT).refusal == 2, "list: Z short");
+    check(run(list.length, 513, 256, REPORT).refusal == 2, "list: Z long");
+    check(run(list.length, 512, 255, REPORT).refusal == 2, "list: ZA short");
+    check(run(list.length, 512, 257, REPORT).refusal == 2, "list: ZA long");
     refused(list.length, 7, list.length, "list: no Z bytes");
 }
 
@@ -293,13 +424,31 @@ static void list_words(void)
     check(nine.refusal == 9 && nine.place == count_place && nine.untouched, "9 before the report's length");
     list.length = count_place;
     put_number(&list, 1024);
-    check(run(list.length, 512, 256, 3071).refusal == 2, "the report's length before the first word");
+    check(run(list.length, 512, 256, 4095).refusal == 2, "the report's length before the first word");
     for (int i = 0; i < 1024; i++)
         put_number(&list, 0xC1A20008);
-    struct answer a = run(list.length, 512, 256, 3072);
+    struct answer a = run(list.length, 512, 256, 4096);
     check(a.refusal == 0 && a.place == 0 && a.words == 1024 && !a.untouched, "row 15: 1,024 words");
-    a = run(list.length, 512, 256, 3071);
+    a = run(list.length, 512, 256, 4095);
     check(a.refusal == 2 && a.place == 0 && a.words == 0 && a.untouched, "a report one short");
+    a = run(list.length, 512, 256, 3072);
+    check(a.refusal == 2 && a.place == 0 && a.words == 0 && a.untouched, "a report of three numbers for each word");
+}
+
+/* Lists of few words, with a report of each length round what is due: 4n, and none for no words. */
+static void report_lengths(void)
+{
+    for (uint32_t n = 0; n < 6; n++) {
+        put_head(128, 12, 3);
+        put_z();
+        put_number(&list, n);
+        for (uint32_t i = 0; i < n; i++)
+            put_number(&list, i % 2 == 0 ? 0xC1A20008 : 0x0E228020);
+        for (size_t numbers = 0; numbers <= 4 * n + 4; numbers++) {
+            struct answer a = run(list.length, 512, 256, numbers);
+            check(numbers < 4 * n ? a.refusal == 2 && a.place == 0 : a.refusal == 0 && a.words == n, "4n numbers");
+        }
+    }
 }
 
 /* Single calls */
@@ -320,7 +469,7 @@ static void settings_refused(void)
         check(second_partner(&bad[i], 0x44BA3820, &word) == 1 && word == 0, "partner 1 before 6");
         set_up(1, 0, 1);
         b.s = bad[i];
-        check(second_execute(&b.s, 0, b.z, 0, b.za, 0, &b.toggled, &b.written) == 1, "execute 1 before 2");
+        check(execute(&b.s, 0, b.z, 0, b.za, 0, &b.c) == 1, "execute 1 before 2");
     }
     struct second_settings none = {.vl = 128};
     struct second_fields f;
@@ -329,11 +478,10 @@ static void settings_refused(void)
 
 static void lengths_and_modes(void)
 {
-    uint32_t t, w;
     set_up(31, 3, 1);
-    check(second_execute(&b.s, 0, b.z, 511, b.za, 256, &t, &w) == 2, "Z short before 3");
-    check(second_execute(&b.s, 0, b.z, 512, b.za, 255, &t, &w) == 2, "ZA short before 3");
-    check(second_execute(&b.s, 0, b.z, 512, b.za, 0, &t, &w) == 2, "no ZA");
+    check(execute(&b.s, 0, b.z, 511, b.za, 256, &b.c) == 2, "Z short before 3");
+    check(execute(&b.s, 0, b.z, 512, b.za, 255, &b.c) == 2, "ZA short before 3");
+    check(execute(&b.s, 0, b.z, 512, b.za, 0, &b.c) == 2, "no ZA");
     check(step(0) == 3, "no layout");
     check(step(0x0E228020) == 4 && step(0x2F726820) == 4, "A and B with SM on");
     check(step(0x44BA3820) == 0, "C with SM on");
@@ -458,14 +606,14 @@ static void add_number(uint32_t number)
 static void answer_case(const struct one_case *c)
 {
     static uint8_t z[SECOND_MOST_Z + 1], za[SECOND_MOST_ZA + 1];
-    uint32_t toggled, written;
+    struct second_counts counts;
     fill(z, c->z.length, c->z.kind, c->z.seed);
     fill(za, c->za.length, c->za.kind, c->za.seed);
-    int refusal = second_execute(&c->s, c->word, z, c->z.length, za, c->za.length, &toggled, &written);
+    int refusal = execute(&c->s, c->word, z, c->z.length, za, c->za.length, &counts);
     answered[refusal]++;
     add_number((uint32_t)refusal);
-    add_number(toggled);
-    add_number(written);
+    add_number(counts.rises + counts.falls);
+    add_number(counts.written);
     add_bytes(z, c->z.length);
     add_bytes(za, c->za.length);
 }
@@ -868,9 +1016,11 @@ int selftest_command(void)
     rows_of_c();
     rows_of_de();
     lists();
+    reports();
     numbers();
     list_settings();
     list_words();
+    report_lengths();
     settings_refused();
     lengths_and_modes();
     partners();

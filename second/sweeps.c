@@ -77,38 +77,41 @@ struct registers {
     uint8_t z[SECOND_MOST_Z], za[SECOND_MOST_ZA];
 };
 
-struct counts {
-    uint32_t toggled, written;
-};
-
-static int step(const struct sweep *sweep, uint32_t word, struct registers *r, struct counts *c)
+/* Whether the word is accepted, and the ones that it leaves are those that its counts say. */
+static int steps(const struct sweep *sweep, uint32_t word, struct registers *r, struct second_counts *c)
 {
-    return second_execute(&sweep->s, word, r->z, second_z_length(sweep->s.vl), r->za, second_za_length(sweep->s.vl),
-                          &c->toggled, &c->written);
+    size_t z = second_z_length(sweep->s.vl), za = second_za_length(sweep->s.vl);
+    uint32_t before = ones_in(r->z, z) + ones_in(r->za, za);
+    if (second_execute(&sweep->s, word, r->z, z, r->za, za, c) != SECOND_ACCEPTED)
+        return 0;
+    return ones_in(r->z, z) + ones_in(r->za, za) + c->falls == before + c->rises;
 }
 
-static int step_back(const struct sweep *sweep, uint32_t word, struct registers *r, struct counts *c)
+static int steps_back(const struct sweep *sweep, uint32_t word, struct registers *r, struct second_counts *c)
 {
     uint32_t partner;
-    int refusal = second_partner(&sweep->s, word, &partner);
-    return refusal != SECOND_ACCEPTED ? refusal : step(sweep, partner, r, c);
+    return second_partner(&sweep->s, word, &partner) == SECOND_ACCEPTED && steps(sweep, partner, r, c);
+}
+
+static int are_turned(const struct second_counts *there, const struct second_counts *back)
+{
+    return back->rises == there->falls && back->falls == there->rises && back->written == there->written;
 }
 
 int leads_back(const struct sweep *sweep)
 {
     static struct registers start, now;
-    static struct counts there[MOST_SWEPT];
+    static struct second_counts there[MOST_SWEPT];
     size_t z = second_z_length(sweep->s.vl), za = second_za_length(sweep->s.vl);
     fill(start.z, z, sweep->z_kind, sweep->z_seed);
     fill(start.za, za, sweep->za_kind, sweep->za_seed);
     now = start;
     for (uint32_t i = 0; i < sweep->count; i++)
-        if (step(sweep, sweep->words[i], &now, &there[i]) != SECOND_ACCEPTED)
+        if (!steps(sweep, sweep->words[i], &now, &there[i]))
             return 0;
     for (uint32_t i = sweep->count; i-- > 0;) {
-        struct counts back;
-        if (step_back(sweep, sweep->words[i], &now, &back) != SECOND_ACCEPTED || back.toggled != there[i].toggled ||
-            back.written != there[i].written)
+        struct second_counts back;
+        if (!steps_back(sweep, sweep->words[i], &now, &back) || !are_turned(&there[i], &back))
             return 0;
     }
     return memcmp(now.z, start.z, z) == 0 && memcmp(now.za, start.za, za) == 0;

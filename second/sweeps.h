@@ -21,8 +21,8 @@ struct sweep {
  * source. */
 struct sweep choose_sweep(uint32_t vl, enum mix mix, uint32_t count);
 
-/* Whether every word and then every partner is accepted, each partner counts what its word counted, and every byte of
- * Z and ZA comes back. */
+/* Whether every word and then every partner is accepted, each partner rises where its word falls and falls where it
+ * rises, ones and falls after each of them are ones before it and rises, and every byte of Z and ZA comes back. */
 int leads_back(const struct sweep *sweep);
 
 /* Takes one sweep, which is lent until the call returns. */
