@@ -23,9 +23,9 @@ int main(void)
             continue;
         }
         callinglamp_decode(settings, words[i], fields);
-        printf("%08X %s, lane %u: %u of %u bits, %u percent\n", words[i],
+        printf("%08X %s, lane %u: %u rises and %u falls of %u bits, %u percent\n", words[i],
                fields[CALLINGLAMP_FIELD_SUBTRACT] == 1 ? "subtract" : "add", fields[CALLINGLAMP_FIELD_LANE],
-               counts[0], counts[1], (unsigned)callinglamp_percent(counts[0], counts[1]));
+               counts[0], counts[1], counts[2], (unsigned)callinglamp_percent(counts[0] + counts[1], counts[2]));
     }
     uint64_t answer = callinglamp_partner(settings, words[0]);
     printf("%08X is the partner of %08X\n", callinglamp_value(answer), words[0]);

@@ -33,9 +33,9 @@
 #include <stddef.h>
 #include <stdint.h>
 
-/* The version, 1.2.0, as one number: ten thousands are its major number, hundreds its minor one. The major number is
+/* The version, 2.0.0, as one number: ten thousands are its major number, hundreds its minor one. The major number is
  * another where a caller has to change something, as where an array is longer; CHANGELOG.md says what. */
-#define CALLINGLAMP_VERSION 10200
+#define CALLINGLAMP_VERSION 20000
 
 #ifdef __cplusplus
 extern "C" {
@@ -176,8 +176,12 @@ uint64_t callinglamp_encode(const uint32_t settings[7], const uint32_t fields[12
  * Refused with 1; 3 as in decode; 6 where the word is of family C. */
 uint64_t callinglamp_partner(const uint32_t settings[7], uint32_t word);
 
-/* counts[2]: toggled, the number of bits of Z and ZA that changed, and written. */
-enum { CALLINGLAMP_COUNTS = 2 };
+/* counts[3]: rises, falls, written.
+ *   rises    the number of bits of Z and ZA that were 0 and are 1
+ *   falls    the number of bits of Z and ZA that were 1 and are 0
+ *   written  the number of bits that the word writes, whether they change or not
+ * Toggled, the number of bits that changed, is rises + falls. */
+enum { CALLINGLAMP_COUNTS = 3 };
 
 /* Runs one word.
  *   settings       as above
@@ -189,26 +193,27 @@ enum { CALLINGLAMP_COUNTS = 2 };
  * Refused with 1; 2 where a length is not exact, whatever the family; 3 as in decode; 4 where the modes do not permit
  * the family: A and B need SM off, C needs SM on or SVE2, D and E need SM and ZA on. */
 uint64_t callinglamp_execute(const uint32_t settings[7], uint32_t word, uint8_t *z, size_t z_length, uint8_t *za,
-                             size_t za_length, uint32_t counts[2]);
+                             size_t za_length, uint32_t counts[3]);
 
 /* 100 * toggled / written, rounded down; 0 where written is 0. It is never refused, and its answer is the number.
- *   toggled  any number; it may be the larger
+ *   toggled  any number, as rises + falls; it may be the larger
  *   written  any number */
 uint64_t callinglamp_percent(uint32_t toggled, uint32_t written);
 
 /* A list has at most so many words, and a report so many numbers for each of them: MOST_WORDS * PER_WORD are enough for
  * any list. */
-enum { CALLINGLAMP_MOST_WORDS = 1024, CALLINGLAMP_PER_WORD = 3, CALLINGLAMP_TOTALS = 3 };
+enum { CALLINGLAMP_MOST_WORDS = 1024, CALLINGLAMP_PER_WORD = 4, CALLINGLAMP_TOTALS = 4 };
 
 /* Runs a list of words: VL, features, modes, W8 to W11; the Z bytes as they are; a count n; n words. Its numbers are in
  * groups of seven bits, low group first, top bit set when another follows, in the shortest form, below 2^32.
  *   list, list_length      the list's bytes
  *   z, z_length            as in execute, at the list's VL. Accepted: Z after the last word; what was there is not read
  *   za, za_length          likewise ZA, which starts at zero
- *   report, report_length  numbers of 32 bits, at least 3n of them. Accepted: three for each word, in order: the word's
- *                          refusal (3 or 4) or 0, toggled, written. The rest stays
- *   totals                 accepted: n, and the sums of toggled and of written
- * A word that is refused with 3 or 4 changes no register, and the run goes on: the list is accepted.
+ *   report, report_length  numbers of 32 bits, at least 4n of them. Accepted: four for each word, in order: the word's
+ *                          refusal (3 or 4) or 0, rises, falls, written. The rest stays
+ *   totals                 accepted: n, and the sums of rises, of falls and of written
+ * A word that is refused with 3 or 4 changes no register, and the run goes on: the list is accepted. Its rises, falls
+ * and written are 0. Over the run, ones of Z and ZA at the end plus falls is ones at the start plus rises.
  *
  * Refused for the first fault from left to right. The answer's value is the place of the fault, a byte of the list.
  *   7   place: the first byte of the number or of the Z bytes in which the list ends, or list_length where a number is
@@ -219,7 +224,7 @@ enum { CALLINGLAMP_MOST_WORDS = 1024, CALLINGLAMP_PER_WORD = 3, CALLINGLAMP_TOTA
  *   9   place: the first byte of n
  *   10  place: the first extra byte */
 uint64_t callinglamp_run(const uint8_t *list, size_t list_length, uint8_t *z, size_t z_length, uint8_t *za,
-                         size_t za_length, uint32_t *report, size_t report_length, uint32_t totals[3]);
+                         size_t za_length, uint32_t *report, size_t report_length, uint32_t totals[4]);
 
 /* The longest text has so many bytes, so that a room of this length is long enough for any word. LONGEST_TEXT is the
  * name that it had first. */
