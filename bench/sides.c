@@ -4,9 +4,16 @@
 
 #include <string.h>
 
+_Static_assert(SECOND_PER_WORD == 4 && CALLINGLAMP_PER_WORD == 4 && CALLINGLAMP_TOTALS == 4, "both sides have four");
+
+static uint32_t *row_of(struct answers *a, uint32_t word)
+{
+    return a->report + SECOND_PER_WORD * word;
+}
+
 static void add_row(struct answers *a, const uint32_t *row)
 {
-    for (int i = 0; i < 3; i++)
+    for (int i = 0; i < SECOND_PER_WORD; i++)
         a->sums[i] += row[i];
 }
 
@@ -14,7 +21,7 @@ static void library_execute(const struct work *w, uint32_t passes, struct answer
 {
     for (uint32_t pass = 0; pass < passes; pass++)
         for (uint32_t i = 0; i < w->count; i++) {
-            uint32_t *row = a->report + 3 * i;
+            uint32_t *row = row_of(a, i);
             row[0] = callinglamp_refusal(callinglamp_execute(w->settings.numbers, w->words[i], a->registers.z,
                                                              w->z_length, a->registers.za, w->za_length, row + 1));
             add_row(a, row);
@@ -25,9 +32,13 @@ static void second_execute_all(const struct work *w, uint32_t passes, struct ans
 {
     for (uint32_t pass = 0; pass < passes; pass++)
         for (uint32_t i = 0; i < w->count; i++) {
-            uint32_t *row = a->report + 3 * i;
+            uint32_t *row = row_of(a, i);
+            struct second_counts counts;
             row[0] = (uint32_t)second_execute(&w->settings.named, w->words[i], a->registers.z, w->z_length,
-                                              a->registers.za, w->za_length, row + 1, row + 2);
+                                              a->registers.za, w->za_length, &counts);
+            row[1] = counts.rises;
+            row[2] = counts.falls;
+            row[3] = counts.written;
             add_row(a, row);
         }
 }
@@ -36,7 +47,7 @@ static void library_decode(const struct work *w, uint32_t passes, struct answers
 {
     for (uint32_t pass = 0; pass < passes; pass++)
         for (uint32_t i = 0; i < w->count; i++)
-            a->report[3 * i] = callinglamp_refusal(
+            row_of(a, i)[0] = callinglamp_refusal(
                 callinglamp_decode(w->settings.numbers, w->words[i], a->fields[i].numbers));
 }
 
@@ -44,7 +55,7 @@ static void second_decode_all(const struct work *w, uint32_t passes, struct answ
 {
     for (uint32_t pass = 0; pass < passes; pass++)
         for (uint32_t i = 0; i < w->count; i++)
-            a->report[3 * i] = (uint32_t)second_decode(&w->settings.named, w->words[i], &a->fields[i].named);
+            row_of(a, i)[0] = (uint32_t)second_decode(&w->settings.named, w->words[i], &a->fields[i].named);
 }
 
 static void library_encode(const struct work *w, uint32_t passes, struct answers *a)
@@ -52,7 +63,7 @@ static void library_encode(const struct work *w, uint32_t passes, struct answers
     for (uint32_t pass = 0; pass < passes; pass++)
         for (uint32_t i = 0; i < w->count; i++) {
             uint64_t answer = callinglamp_encode(w->settings.numbers, w->fields[i].numbers);
-            a->report[3 * i] = callinglamp_refusal(answer);
+            row_of(a, i)[0] = callinglamp_refusal(answer);
             a->words[i] = callinglamp_value(answer);
         }
 }
@@ -61,7 +72,7 @@ static void second_encode_all(const struct work *w, uint32_t passes, struct answ
 {
     for (uint32_t pass = 0; pass < passes; pass++)
         for (uint32_t i = 0; i < w->count; i++)
-            a->report[3 * i] = (uint32_t)second_encode(&w->settings.named, &w->fields[i].named, &a->words[i]);
+            row_of(a, i)[0] = (uint32_t)second_encode(&w->settings.named, &w->fields[i].named, &a->words[i]);
 }
 
 static void library_partner(const struct work *w, uint32_t passes, struct answers *a)
@@ -69,7 +80,7 @@ static void library_partner(const struct work *w, uint32_t passes, struct answer
     for (uint32_t pass = 0; pass < passes; pass++)
         for (uint32_t i = 0; i < w->count; i++) {
             uint64_t answer = callinglamp_partner(w->settings.numbers, w->words[i]);
-            a->report[3 * i] = callinglamp_refusal(answer);
+            row_of(a, i)[0] = callinglamp_refusal(answer);
             a->words[i] = callinglamp_value(answer);
         }
 }
@@ -78,14 +89,14 @@ static void second_partner_all(const struct work *w, uint32_t passes, struct ans
 {
     for (uint32_t pass = 0; pass < passes; pass++)
         for (uint32_t i = 0; i < w->count; i++)
-            a->report[3 * i] = (uint32_t)second_partner(&w->settings.named, w->words[i], &a->words[i]);
+            row_of(a, i)[0] = (uint32_t)second_partner(&w->settings.named, w->words[i], &a->words[i]);
 }
 
 static void library_run(const struct work *w, uint32_t passes, struct answers *a)
 {
     for (uint32_t pass = 0; pass < passes; pass++)
         a->answer = callinglamp_run(w->list, w->list_length, a->registers.z, w->z_length, a->registers.za,
-                                    w->za_length, a->report, 3 * SECOND_MOST_WORDS, a->totals);
+                                    w->za_length, a->report, SECOND_PER_WORD * SECOND_MOST_WORDS, a->totals);
 }
 
 static void second_run_all(const struct work *w, uint32_t passes, struct answers *a)
@@ -93,7 +104,7 @@ static void second_run_all(const struct work *w, uint32_t passes, struct answers
     for (uint32_t pass = 0; pass < passes; pass++) {
         size_t place;
         int refusal = second_run(w->list, w->list_length, a->registers.z, w->z_length, a->registers.za, w->za_length,
-                                 a->report, 3 * SECOND_MOST_WORDS, &place, &a->totals[0]);
+                                 a->report, SECOND_PER_WORD * SECOND_MOST_WORDS, &place, &a->totals[0]);
         a->answer = (uint64_t)place << 32 | (uint32_t)refusal;
     }
 }
@@ -103,7 +114,7 @@ static void library_print(const struct work *w, uint32_t passes, struct answers 
     for (uint32_t pass = 0; pass < passes; pass++)
         for (uint32_t i = 0; i < w->count; i++) {
             uint64_t answer = callinglamp_print(w->settings.numbers, w->words[i], a->texts[i], TEXT_ROOM);
-            a->report[3 * i] = callinglamp_refusal(answer);
+            row_of(a, i)[0] = callinglamp_refusal(answer);
             a->words[i] = callinglamp_value(answer);
         }
 }
@@ -113,7 +124,7 @@ static void second_print_all(const struct work *w, uint32_t passes, struct answe
     for (uint32_t pass = 0; pass < passes; pass++)
         for (uint32_t i = 0; i < w->count; i++) {
             size_t length;
-            a->report[3 * i] = (uint32_t)second_print(&w->settings.named, w->words[i], a->texts[i], TEXT_ROOM, &length);
+            row_of(a, i)[0] = (uint32_t)second_print(&w->settings.named, w->words[i], a->texts[i], TEXT_ROOM, &length);
             a->words[i] = (uint32_t)length;
         }
 }
@@ -123,7 +134,7 @@ static void library_read(const struct work *w, uint32_t passes, struct answers *
     for (uint32_t pass = 0; pass < passes; pass++)
         for (uint32_t i = 0; i < w->count; i++) {
             uint64_t answer = callinglamp_read(w->settings.numbers, w->texts[i], w->text_lengths[i]);
-            a->report[3 * i] = callinglamp_refusal(answer);
+            row_of(a, i)[0] = callinglamp_refusal(answer);
             a->words[i] = callinglamp_value(answer);
         }
 }
@@ -132,7 +143,7 @@ static void second_read_all(const struct work *w, uint32_t passes, struct answer
 {
     for (uint32_t pass = 0; pass < passes; pass++)
         for (uint32_t i = 0; i < w->count; i++)
-            a->report[3 * i] = (uint32_t)second_read(&w->settings.named, w->texts[i], w->text_lengths[i], &a->words[i]);
+            row_of(a, i)[0] = (uint32_t)second_read(&w->settings.named, w->texts[i], w->text_lengths[i], &a->words[i]);
 }
 
 const struct call execute_call = {"execute", library_execute, second_execute_all};
@@ -146,11 +157,10 @@ const struct call read_call = {"read", library_read, second_read_all};
 /* The second program's run gives a count but no tally: that is the sum of its report. */
 static bool same_totals(const struct answers *library, const struct answers *second)
 {
-    uint32_t due[3] = {second->totals[0], 0, 0};
-    for (uint32_t i = 0; i < second->totals[0]; i++) {
-        due[1] += second->report[3 * i + 1];
-        due[2] += second->report[3 * i + 2];
-    }
+    uint32_t due[SECOND_PER_WORD] = {second->totals[0], 0, 0, 0};
+    for (uint32_t i = 0; i < second->totals[0]; i++)
+        for (uint32_t column = 1; column < SECOND_PER_WORD; column++)
+            due[column] += second->report[SECOND_PER_WORD * i + column];
     return memcmp(library->totals, due, sizeof due) == 0;
 }
 

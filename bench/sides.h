@@ -9,12 +9,12 @@
 /* What one side answered: the registers at the end, for each word its last answer, and sums over all answers. */
 struct answers {
     struct registers registers;
-    uint32_t report[3 * SECOND_MOST_WORDS]; /* refusal, toggled, written */
+    uint32_t report[SECOND_PER_WORD * SECOND_MOST_WORDS]; /* refusal, rises, falls, written */
     uint32_t words[SECOND_MOST_WORDS];      /* of encode, partner and read; of print the lengths */
     union fields fields[SECOND_MOST_WORDS]; /* of decode */
     uint64_t answer;                        /* of run: the refusal, and above it the place */
-    uint32_t totals[3];                     /* of run */
-    uint64_t sums[3];                       /* of execute: the report's columns */
+    uint32_t totals[4];                     /* of run: n, and the sums of the report's other columns */
+    uint64_t sums[SECOND_PER_WORD];         /* of execute: the report's columns */
     _Alignas(64) char texts[SECOND_MOST_WORDS][TEXT_ROOM]; /* of print */
 };
 

@@ -1,5 +1,6 @@
 #include "calls.h"
 
+#include "balance.h"
 #include "callinglamp.h"
 #include "choices.h"
 #include "judge.h"
@@ -18,7 +19,7 @@ void make_rooms(void)
     fields_room = make_room("fields", sizeof(uint32_t), CALLINGLAMP_FIELDS);
     z_room = make_room("z", 1, MOST_LENGTH);
     za_room = make_room("za", 1, MOST_LENGTH);
-    counts_room = make_room("counts", sizeof(uint32_t), 2);
+    counts_room = make_room("counts", sizeof(uint32_t), CALLINGLAMP_COUNTS);
     short_room = make_room("text", 1, MOST_SHORT);
     long_room = make_room("text", 1, MOST_TEXT);
 }
@@ -66,7 +67,7 @@ static void lend_execution(const struct execution *e)
     lend(&settings_room, &e->s, CALLINGLAMP_SETTINGS);
     lend(&z_room, e->z, e->z_length);
     lend(&za_room, e->za, e->za_length);
-    lend_random(&counts_room, 2);
+    lend_random(&counts_room, CALLINGLAMP_COUNTS);
 }
 
 static void take_back(struct execution *e)
@@ -78,19 +79,21 @@ static void take_back(struct execution *e)
 
 uint32_t compare_execute(struct execution *e)
 {
-    uint32_t toggled, written;
+    struct second_counts c;
     lend_execution(e);
     struct call call = {EXECUTE, {{"word", e->word}}, {&settings_room, &z_room, &za_room, &counts_room}, 0, 0};
     int refusal = second_execute(&e->s, e->word, due_bytes(&z_room), e->z_length, due_bytes(&za_room), e->za_length,
-                                 &toggled, &written);
+                                 &c);
     if (refusal == SECOND_ACCEPTED) {
-        due_numbers(&counts_room)[0] = toggled;
-        due_numbers(&counts_room)[1] = written;
+        due_numbers(&counts_room)[0] = c.rises;
+        due_numbers(&counts_room)[1] = c.falls;
+        due_numbers(&counts_room)[2] = c.written;
     }
     call.due = answer_of(refusal, 0);
     call.answer = callinglamp_execute(numbers_of(&settings_room), e->word, bytes_of(&z_room), e->z_length,
                                       bytes_of(&za_room), e->za_length, numbers_of(&counts_room));
     judge(&call);
+    weigh_execution(&call, &z_room, &za_room, numbers_of(&counts_room));
     take_back(e);
     return callinglamp_refusal(call.answer);
 }

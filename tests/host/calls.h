@@ -21,10 +21,10 @@ struct execution {
     uint32_t word;
     size_t z_length, za_length;
     uint8_t z[MOST_LENGTH], za[MOST_LENGTH];
-    uint32_t counts[2]; /* toggled, written */
+    uint32_t counts[3]; /* rises, falls, written */
 };
 
-/* The refusal number, or 0. */
+/* The refusal number, or 0. The balance is tested too. */
 uint32_t compare_execute(struct execution *e);
 
 /* A print into a room of this length: 0 to MOST_SHORT. Beyond its text the room must stay, as beyond itself. */

@@ -4,6 +4,7 @@
  *
  * It ends with 0 where all is alike, with 1 at the first difference, which it prints, and with 2 where it is called
  * wrongly. */
+#include "balance.h"
 #include "callinglamp.h"
 #include "calls.h"
 #include "choices.h"
@@ -46,8 +47,9 @@ int main(int argc, char **argv)
     compare_steps();
     int enough = compare_version();
     enough &= compare_cases(seed) & compare_sweeps(seed);
-    compare_runs(seed);
+    enough &= compare_runs(seed);
     enough &= compare_texts();
+    enough &= print_balance();
     enough &= print_summary();
     if (!enough)
         return 1;

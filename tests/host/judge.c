@@ -63,6 +63,11 @@ void lend_random(struct room *room, size_t count)
     copy_before(room);
 }
 
+const uint8_t *bytes_before(const struct room *room)
+{
+    return room->before + room->start;
+}
+
 uint8_t *bytes_of(const struct room *room)
 {
     return room->library + room->start;
@@ -162,7 +167,7 @@ static int is_alike(const struct room *room)
 
 static int is_kept(const struct room *room)
 {
-    return memcmp(bytes_of(room), room->before + room->start, room->length) == 0;
+    return memcmp(bytes_of(room), bytes_before(room), room->length) == 0;
 }
 
 static int is_good(const struct call *call)
@@ -220,10 +225,9 @@ static void print_signs(const struct room *room)
     printf("\"\n");
 }
 
-static void print_call(const struct call *call)
+static void print_call(const struct call *call, const char *fault)
 {
-    printf("call %lu of callinglamp_%s: the library is not as the second program says\n", count_of(call->which),
-           calls[call->which].name);
+    printf("call %lu of callinglamp_%s: %s\n", count_of(call->which), calls[call->which].name, fault);
     for (size_t i = 0; i < 2 && call->given[i].name != NULL; i++)
         printf("%s %08X\n", call->given[i].name, (unsigned)call->given[i].number);
     for (const struct room *const *room = call->lent; *room != NULL; room++)
@@ -239,6 +243,12 @@ void judge(const struct call *call)
     counts[call->which][refusal_of(call)]++;
     if (is_good(call))
         return;
-    print_call(call);
+    print_call(call, "the library is not as the second program says");
+    exit(1);
+}
+
+void breaks_law(const struct call *call, const char *law)
+{
+    print_call(call, law);
     exit(1);
 }

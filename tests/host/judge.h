@@ -22,6 +22,9 @@ struct room make_room(const char *name, size_t unit, size_t most);
 void lend(struct room *room, const void *contents, size_t count);
 void lend_random(struct room *room, size_t count);
 
+/* What was lent. */
+const uint8_t *bytes_before(const struct room *room);
+
 /* What is lent to the library. */
 uint8_t *bytes_of(const struct room *room);
 uint32_t *numbers_of(const struct room *room);
@@ -48,6 +51,10 @@ uint64_t answer_of(int refusal, uint64_t value);
 /* Counts the call. Where the library differs from the second program, in its answer or in any byte, or has changed
  * something in a refused call, it prints all of the call and ends the program with 1. */
 void judge(const struct call *call);
+
+/* Prints all of a call that was judged, and which law it breaks though the two sides are alike, and ends the program
+ * with 1. */
+void breaks_law(const struct call *call, const char *law);
 
 /* How many calls of a kind were judged. */
 unsigned long count_of(enum which which);

@@ -15,8 +15,9 @@ void compare_steps(void);
 int compare_cases(uint32_t seed);
 int compare_sweeps(uint32_t seed);
 
-/* run: the lists are made with this seed and those after it. */
-void compare_runs(uint32_t seed);
+/* run: the lists are made with this seed and those after it. It says how many were accepted with the shortest report,
+ * and returns 0 where they are too few. */
+int compare_runs(uint32_t seed);
 
 /* print, read. It says how many there were, and returns 0 where they are too few. */
 int compare_texts(void);

@@ -53,7 +53,7 @@ static void call_execute(void)
 
 static void call_percent(void)
 {
-    answer = callinglamp_percent(counts[0], counts[1]);
+    answer = callinglamp_percent(counts[0] + counts[1], counts[2]);
 }
 
 static void call_run(void)

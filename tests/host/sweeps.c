@@ -37,7 +37,7 @@ static void does_not_close(const struct sweep *w, uint32_t at, const char *why)
     exit(1);
 }
 
-static void go(struct execution *e, const struct sweep *w, uint32_t counts[][2])
+static void go(struct execution *e, const struct sweep *w, uint32_t counts[][CALLINGLAMP_COUNTS])
 {
     for (uint32_t i = 0; i < w->count; i++) {
         e->word = w->words[i];
@@ -47,22 +47,26 @@ static void go(struct execution *e, const struct sweep *w, uint32_t counts[][2])
     }
 }
 
-static void go_back(struct execution *e, const struct sweep *w, uint32_t counts[][2])
+static void go_back(struct execution *e, const struct sweep *w, uint32_t counts[][CALLINGLAMP_COUNTS])
 {
     for (uint32_t i = w->count; i-- > 0;) {
         uint64_t answer = compare_partner(&w->s, w->words[i]);
         e->word = callinglamp_value(answer);
         if (callinglamp_refusal(answer) != CALLINGLAMP_ACCEPTED || compare_execute(e) != CALLINGLAMP_ACCEPTED)
             does_not_close(w, i, "the partner is refused");
-        if (memcmp(counts[i], e->counts, sizeof e->counts) != 0)
-            does_not_close(w, i, "the partner reports other counts");
+        if (e->counts[0] != counts[i][1])
+            does_not_close(w, i, "the partner's rises are not its word's falls");
+        if (e->counts[1] != counts[i][0])
+            does_not_close(w, i, "the partner's falls are not its word's rises");
+        if (e->counts[2] != counts[i][2])
+            does_not_close(w, i, "the partner writes another number of bits");
     }
 }
 
 static void compare_sweep(const struct sweep *w)
 {
     static struct execution e, began;
-    static uint32_t counts[MOST_SWEPT][2];
+    static uint32_t counts[MOST_SWEPT][CALLINGLAMP_COUNTS];
     start(&began, w);
     e = began;
     go(&e, w, counts);

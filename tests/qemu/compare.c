@@ -139,16 +139,17 @@ static void fill(uint8_t *z, size_t length, uint32_t kind)
     }
 }
 
-/* Eight bytes at a time, since counting ones is slow in the emulator. */
-static uint32_t ones_between(const uint8_t *a, const uint8_t *b, size_t length)
+/* The bits that are 0 in the first and 1 in the second: rises from one to the other, and falls the other way round.
+ * Eight bytes at a time, since counting ones is slow in the emulator. */
+static uint32_t rises_between(const uint8_t *from, const uint8_t *to, size_t length)
 {
     uint32_t count = 0;
     for (size_t i = 0; i < length; i += 8) {
         uint64_t x, y;
-        memcpy(&x, a + i, 8);
-        memcpy(&y, b + i, 8);
+        memcpy(&x, from + i, 8);
+        memcpy(&y, to + i, 8);
         if (x != y)
-            count += (uint32_t)__builtin_popcountll(x ^ y);
+            count += (uint32_t)__builtin_popcountll(~x & y);
     }
     return count;
 }
@@ -185,7 +186,7 @@ static void compare(struct second_settings *s, uint32_t word, const void *code, 
 {
     size_t z_length = second_z_length(s->vl), za_length = second_za_length(s->vl);
     struct second_fields f;
-    uint32_t toggled, written;
+    struct second_counts counts;
     second_decode(s, word, &f);
     fill(before.z, z_length, kind);
     if (f.family >= SECOND_FAMILY_D) {
@@ -197,13 +198,15 @@ static void compare(struct second_settings *s, uint32_t word, const void *code, 
         step_za(machine.z, code, machine.za, s->w);
     else
         step(machine.z, code);
-    int refusal = second_execute(s, word, second.z, z_length, second.za, za_length, &toggled, &written);
+    int refusal = second_execute(s, word, second.z, z_length, second.za, za_length, &counts);
     if (f.family <= SECOND_FAMILY_B)
         set_above_aside(machine.z, before.z, s->vl, f.destination);
     steps++;
-    changed += toggled != 0;
-    uint32_t ones = ones_between(before.z, machine.z, z_length) + ones_between(before.za, machine.za, za_length);
-    if (refusal != 0 || memcmp(&machine, &second, sizeof machine) != 0 || toggled != ones) {
+    changed += counts.rises + counts.falls != 0;
+    uint32_t rises = rises_between(before.z, machine.z, z_length) + rises_between(before.za, machine.za, za_length);
+    uint32_t falls = rises_between(machine.z, before.z, z_length) + rises_between(machine.za, before.za, za_length);
+    if (refusal != 0 || memcmp(&machine, &second, sizeof machine) != 0 || counts.rises != rises ||
+        counts.falls != falls) {
         if (differences++ < 10)
             printf("differs: VL %u word %08X contents %u\n", (unsigned)s->vl, (unsigned)word, (unsigned)kind);
     }
