@@ -1,7 +1,7 @@
--- Counts over the bits of two lists of bytes, for any test of two bits: equal lists, turned lists, parts, splices and bounds. Assumes nothing.
+-- Counts over the bits of two lists of bytes, for any test of two bits: equal lists, turned lists, parts, splices, sums and bounds. Assumes nothing.
 use mathlib.Core.Path.{_≡_, refl, sym, ap₂, _∙_}
 use mathlib.Core.List.{List, [], _∷_, _++_}
-use Prim.Native.Nat.{ℕ, zero, suc, _+_, _*_, _/_, _%_, _^_, _≤_, _<_}
+use Prim.Native.Nat.{ℕ, zero, suc, _+_, _-_, _*_, _/_, _%_, _^_, _≤_, _<_}
 use native.Mathlib.Nat.{zero-add, suc-add, add-assoc, mod-lt}
 use native.Mathlib.Numerals.{add-one, one-add}
 use native.Mathlib.Omega.{arith}
@@ -13,7 +13,7 @@ use lib.Dec.{lit<}
 use Rattle.laws.proofs.Bits.{one-bit, two-bits}
 use Rattle.elements.specs.Elements.{splice}
 use Rattle.elements.proofs.Files.{length-splice, take-splice, part-splice, drop-splice}
-use Rattle.bits.specs.Bits.{overBits, overBytes, toggled}
+use Rattle.bits.specs.Bits.{overBits, overBytes, rose, fell, rises, falls, toggled, onesOf, zerosOf}
 
 pub two-lt : (x : ℕ) → x % 2 < 2
 two-lt x = mod-lt x (lit< tt)
@@ -31,8 +31,20 @@ Once f = (x y : ℕ) → x < 2 → y < 2 → f x y ≤ 1
 pub differ-unmoved : Unmoved differ
 differ-unmoved = one-bit (λ x. differ x x ≡ 0) refl refl
 
+pub rose-unmoved : Unmoved rose
+rose-unmoved = one-bit (λ x. rose x x ≡ 0) refl refl
+
+pub fell-unmoved : Unmoved fell
+fell-unmoved = one-bit (λ x. fell x x ≡ 0) refl refl
+
 pub differ-once : Once differ
 differ-once = two-bits (λ x y. differ x y ≤ 1) (omega arith) (omega arith) (omega arith) (omega arith)
+
+pub rose-once : Once rose
+rose-once = two-bits (λ x y. rose x y ≤ 1) (omega arith) (omega arith) (omega arith) (omega arith)
+
+pub fell-once : Once fell
+fell-once = two-bits (λ x y. fell x y ≤ 1) (omega arith) (omega arith) (omega arith) (omega arith)
 
 -- ---- any test
 
@@ -152,10 +164,90 @@ module _ (f g : ℕ → ℕ → ℕ) (turned : (x y : ℕ) → x < 2 → y < 2 �
   bytes-turned (a ∷ s) [] = refl
   bytes-turned (a ∷ s) (b ∷ t) = rw (bits-turned 8 a b, bytes-turned s t)
 
--- ---- how many bits differ
+-- ---- two tests and their sum
 
-pub toggled-comm : (s t : List ℕ) → toggled s t ≡ toggled t s
-toggled-comm = bytes-turned differ differ (two-bits (λ x y. differ x y ≡ differ y x) refl refl refl refl)
+module _ (f g h : ℕ → ℕ → ℕ) (sum : (x y : ℕ) → x < 2 → y < 2 → f x y + g x y ≡ h x y) where
+  bits-sum : (k a b : ℕ) → overBits f k a b + overBits g k a b ≡ overBits h k a b
+  unfolding overBits
+  bits-sum zero a b = refl
+  bits-sum (suc k) a b = omega (arith, sum (a % 2) (b % 2) (two-lt a) (two-lt b), bits-sum k (a / 2) (b / 2))
 
-pub toggled-same : (s : List ℕ) → toggled s s ≡ 0
-toggled-same = bytes-same differ differ-unmoved
+  bytes-sum : (s t : List ℕ) → overBytes f s t + overBytes g s t ≡ overBytes h s t
+  unfolding overBytes
+  bytes-sum [] t = refl
+  bytes-sum (x ∷ s) [] = refl
+  bytes-sum (x ∷ s) (y ∷ t) = omega (arith, bits-sum 8 x y, bytes-sum s t)
+
+-- ---- a test of which another says no less
+
+module _ (f g : ℕ → ℕ → ℕ) (less : (x y : ℕ) → x < 2 → y < 2 → f x y ≤ g x y) where
+  bits-less : (k a b : ℕ) → overBits f k a b ≤ overBits g k a b
+  unfolding overBits
+  bits-less zero a b = omega arith
+  bits-less (suc k) a b = omega (arith, less (a % 2) (b % 2) (two-lt a) (two-lt b), bits-less k (a / 2) (b / 2))
+
+  bytes-less : (s t : List ℕ) → overBytes f s t ≤ overBytes g s t
+  unfolding overBytes
+  bytes-less [] t = omega arith
+  bytes-less (x ∷ s) [] = omega arith
+  bytes-less (x ∷ s) (y ∷ t) = omega (arith, bits-less 8 x y, bytes-less s t)
+
+-- ---- a test of the first bit alone
+
+module _ (c : ℕ → ℕ) where
+  bits-first : (k a b d : ℕ) → overBits (λ x y. c x) k a b ≡ overBits (λ x y. c x) k a d
+  unfolding overBits
+  bits-first zero a b d = refl
+  bits-first (suc k) a b d = rw (bits-first k (a / 2) (b / 2) (d / 2))
+
+  bytes-first : (s t : List ℕ) → length s ≡ length t → overBytes (λ x y. c x) s t ≡ overBytes (λ x y. c x) s s
+  unfolding overBytes
+  bytes-first [] t e = refl
+  bytes-first (x ∷ s) [] e = absurd (omega arith)
+  bytes-first (x ∷ s) (y ∷ t) e = rw (bits-first 8 x y x, bytes-first s t (omega arith))
+
+-- ---- rises and falls
+
+-- the bits that differ are those that rise and those that fall
+pub toggled-differs : (s t : List ℕ) → toggled s t ≡ overBytes differ s t
+toggled-differs = bytes-sum rose fell differ (two-bits (λ x y. rose x y + fell x y ≡ differ x y) refl refl refl refl)
+
+-- what rises one way falls the other way
+pub rises-turned : (s t : List ℕ) → rises s t ≡ falls t s
+rises-turned = bytes-turned rose fell (two-bits (λ x y. rose x y ≡ fell y x) refl refl refl refl)
+
+pub rises-same : (s : List ℕ) → rises s s ≡ 0
+rises-same = bytes-same rose rose-unmoved
+
+pub falls-same : (s : List ℕ) → falls s s ≡ 0
+falls-same = bytes-same fell fell-unmoved
+
+-- ---- ones and zeros
+
+eights : (s : List ℕ) → overBytes (λ x y. 1) s s ≡ 8 * length s
+unfolding overBytes overBits
+eights [] = refl
+eights (x ∷ s) = omega (arith, eights s)
+
+pub bits-are : (s : List ℕ) → onesOf s + zerosOf s ≡ 8 * length s
+bits-are s = bytes-sum (λ x y. x) (λ x y. 1 - x) (λ x y. 1) (two-bits (λ x y. x + (1 - x) ≡ 1) refl refl refl refl) s s ∙ eights s
+
+-- the ones of the second list and what falls are the ones of the first and what rises
+pub balance : (s t : List ℕ) → length s ≡ length t → onesOf t + falls s t ≡ onesOf s + rises s t
+balance s t e =
+    let after : overBytes (λ x y. y) s t ≡ onesOf t = bytes-turned (λ x y. y) (λ x y. x) (λ x y hx hy. refl) s t ∙ bytes-first (λ x. x) t s (sym e) in
+    let before : overBytes (λ x y. x) s t ≡ onesOf s = bytes-first (λ x. x) s t e in
+    let one = bytes-sum (λ x y. y) fell (λ x y. x + rose x y) (two-bits (λ x y. y + fell x y ≡ x + rose x y) refl refl refl refl) s t in
+    let other = bytes-sum (λ x y. x) rose (λ x y. x + rose x y) (λ x y hx hy. refl) s t in
+    omega arith
+
+-- a bit that rises was 0, and one that falls was 1
+pub rises-le : (s t : List ℕ) → length s ≡ length t → rises s t ≤ zerosOf s
+rises-le s t e =
+    rw (← bytes-first (λ x. 1 - x) s t e)
+    (bytes-less rose (λ x y. 1 - x) (two-bits (λ x y. rose x y ≤ 1 - x) (omega arith) (omega arith) (omega arith) (omega arith)) s t)
+
+pub falls-le : (s t : List ℕ) → length s ≡ length t → falls s t ≤ onesOf s
+falls-le s t e =
+    rw (← bytes-first (λ x. x) s t e)
+    (bytes-less fell (λ x y. x) (two-bits (λ x y. fell x y ≤ x) (omega arith) (omega arith) (omega arith) (omega arith)) s t)

@@ -1,20 +1,19 @@
--- The bits that change where an element is written, and one turn of `replace`. Assumes nothing.
-use mathlib.Core.Path.{_≡_, sym, ap, ap₂, _∙_}
+-- The bits that change where an element is written, one turn of `replace`, and two words. Assumes nothing.
+use mathlib.Core.Path.{_≡_, refl, sym, ap, ap₂, _∙_}
 use mathlib.Core.List.{List}
 use Prim.Native.Nat.{ℕ, zero, suc, _+_, _*_, _/_, _%_, _^_, _≤_, _<_}
 use native.Mathlib.Nat.{add-zero, add-assoc, add-comm, mul-suc, mod-eq-of-lt, le-refl}
 use native.Mathlib.Omega.{arith}
 use lib.ListN.{length, getD}
 use lib.Arith.{digits-div, digits-mod}
-use lib.Bits.{bitXor, differ}
-use lib.Count.{ones}
-use Rattle.elements.specs.Elements.{elementAt, element, putAt}
-use Rattle.elements.proofs.Elements.{Bytes, pow256, elementAt-lt, elementAt-same, length-put, put-after}
+use lib.Bits.{differ}
+use Rattle.elements.specs.Elements.{elementAt, element, putAt, splice}
+use Rattle.elements.proofs.Elements.{Bytes, pow256, elementAt-lt, elementAt-same, elementAt-put-after, length-put, put-after}
 use Rattle.elements.proofs.Vectors.{putEach, putEach-turn, putEach-after, putEach-splice, length-putEach, vector-own}
-use Rattle.bits.specs.Bits.{overBits, overBytes, toggled}
+use Rattle.bits.specs.Bits.{overBits, overBytes, rose, fell, rises, falls}
 use Rattle.bits.specs.Replace.{Replaced}
-use Rattle.bits.proofs.Bits.{Unmoved, differ-unmoved, differ-once, bits-split, bits-mod, bits-same, bits-le, bytes-set}
-use Rattle.bits.proofs.Ones.{ones-xor}
+use Rattle.bits.specs.declared.Toggles.{Toggles}
+use Rattle.bits.proofs.Bits.{Unmoved, differ-unmoved, rose-unmoved, fell-unmoved, differ-once, bits-split, bits-mod, bits-same, bytes-same, bytes-set, bytes-splice-le, toggled-differs}
 
 module _ (f : ℕ → ℕ → ℕ) where
   -- the bits of one byte more
@@ -46,14 +45,10 @@ module _ (f : ℕ → ℕ → ℕ) where
 abbrev pub Upto : List ℕ → List ℕ → ℕ → ℕ → List ℕ → Type 0
 Upto file₀ new at i file = file ≡ putEach (element 8 new) 8 at (i / 8) file₀
 
--- the bits that change in eight bytes
-pub few-ones : (before after : ℕ) → before < 2 ^ 64 → after < 2 ^ 64 → ones (bitXor before after) ≤ 64
-few-ones before after lb la = rw (ones-xor 64 before after lb la) (bits-le differ differ-once 64 before after)
-
--- what a turn leaves
-pub record Turned (file₀ new : List ℕ) (at i t r : ℕ) (file′ : List ℕ) : Type 0 where
+-- what a turn leaves: the count of any test that does not count equal bits grows by that of the eight bytes
+pub record Turned (file₀ new : List ℕ) (at i before after : ℕ) (file file′ : List ℕ) : Type 0 where
   pub upto : Upto file₀ new at (i + 8) file′
-  pub bits : t + r ≡ toggled file₀ file′
+  pub counts : (f : ℕ → ℕ → ℕ) → Unmoved f → overBytes f file₀ file + overBits f 64 before after ≡ overBytes f file₀ file′
   pub long : length file′ ≡ length file₀
 
 -- what is not written yet stands as it was
@@ -62,32 +57,56 @@ untouched file₀ new at i file up j = rw up (putEach-after (element 8 new) 8 at
 
 module _ (file₀ new : List ℕ) (at : ℕ) (fit : at + length new ≤ length file₀) (eights : length new % 8 ≡ 0) where
   -- one turn, from what its calls ensure
-  pub turn : (i t before after : ℕ) (file file′ : List ℕ) → Bytes file₀ → i % 8 ≡ 0 → i < length new → Upto file₀ new at i file → t ≡ toggled file₀ file
-      → before ≡ elementAt 8 (at + i) file → after ≡ elementAt 8 i new → before < 2 ^ 64 → after < 2 ^ 64 → file′ ≡ putAt 8 (at + i) after file
-      → Turned file₀ new at i t (ones (bitXor before after)) file′
-  turn i t before after file file′ by hi h up et eb ea lb la ef =
+  pub turn : (i before after : ℕ) (file file′ : List ℕ) → Bytes file₀ → i % 8 ≡ 0 → i < length new → Upto file₀ new at i file
+      → before ≡ elementAt 8 (at + i) file → after ≡ elementAt 8 i new → file′ ≡ putAt 8 (at + i) after file
+      → Turned file₀ new at i before after file file′
+  turn i before after file file′ by hi h up eb ea ef =
       let e : ℕ = i / 8 in
       let ie : i ≡ e * 8 = omega arith in
       let long : length file ≡ length file₀ = rw up (length-putEach (element 8 new) 8 at file₀ e) in
       let agree : (j : ℕ) → j < 8 → getD file (at + i + j) 0 ≡ getD file₀ (at + i + j) 0 = λ j _. untouched file₀ new at i file up j in
       let old : before ≡ elementAt 8 (at + i) file₀ = eb ∙ elementAt-same 8 (at + i) (at + i) file file₀ agree in
-      let count : ones (bitXor before after) ≡ overBits differ 64 before after = ones-xor 64 before after lb la in
       record {
         upto =
             let q : (i + 8) / 8 ≡ e + 1 = omega arith in
             rw q (putEach-turn (element 8 new) 8 at e (at + i) after file₀ file file′ (omega arith) (ea ∙ ap (λ (x : ℕ). elementAt 8 x new) ie) up ef);
-        bits = rw (et, count, ef, old) (sym (bytes-put differ differ-unmoved 8 (at + i) after file₀ file (sym long) by (omega arith) agree));
+        counts = λ f same. rw (ef, old) (sym (bytes-put f same 8 (at + i) after file₀ file (sym long) by (omega arith) agree));
         long = rw ef (length-put (at + i) after file 8) ∙ long;
       }
 
   -- the loop's end
-  pub all : (i t : ℕ) (file : List ℕ) → Bytes new → i % 8 ≡ 0 → i ≤ length new → length new ≤ i → Upto file₀ new at i file → t ≡ toggled file₀ file
-      → t ≤ 8 * i → Replaced at t new file₀ file
-  all i t file by hi l m up et few =
+  pub all : (i u d : ℕ) (file : List ℕ) → Bytes new → i % 8 ≡ 0 → i ≤ length new → length new ≤ i → Upto file₀ new at i file
+      → u ≡ rises file₀ file → d ≡ falls file₀ file → Replaced at (record { rises = u; falls = d }) new file₀ file
+  all i u d file by hi l m up eu ed =
       let e : ℕ = i / 8 in
       let long : length new ≡ e * 8 = omega arith in
+      let after : file ≡ splice at new file₀ = up ∙ putEach-splice (element 8 new) 8 at e file₀ (omega arith) ∙ rw (vector-own 8 e new by long) in
       record {
-        after = up ∙ putEach-splice (element 8 new) 8 at e file₀ (omega arith) ∙ rw (vector-own 8 e new by long);
-        bits = et;
-        few = omega arith;
+        after = after;
+        bits = ap₂ {A = ℕ} {B = ℕ} {C = Toggles} (λ r f. record { rises = r; falls = f }) eu ed;
+        few =
+            omega (arith, eu, ed, toggled-differs file₀ file, ap (overBytes differ file₀) after, bytes-splice-le differ differ-once differ-unmoved at new file₀ fit);
       }
+
+-- ---- two words
+
+-- 16 new bytes, of which all is read before any is written: r bits rose, and d fell
+pub both : (file₀ new : List ℕ) (at : ℕ) → at + 16 ≤ length file₀ → length new ≡ 16 → Bytes file₀ → Bytes new
+    → (before before′ after after′ r d : ℕ) (file file′ : List ℕ) → before ≡ elementAt 8 at file₀ → before′ ≡ elementAt 8 (at + 8) file₀
+    → after ≡ elementAt 8 0 new → after′ ≡ elementAt 8 8 new → file ≡ putAt 8 at after file₀ → file′ ≡ putAt 8 (at + 8) after′ file
+    → r ≡ overBits rose 64 before after + overBits rose 64 before′ after′ → d ≡ overBits fell 64 before after + overBits fell 64 before′ after′
+    → Replaced at (record { rises = r; falls = d }) new file₀ file′
+unfolding putEach
+both file₀ new at fit long by by′ before before′ after after′ r d file file′ eb eb′ ea ea′ ef ef′ er ed =
+    let room : at + length new ≤ length file₀ = omega arith in
+    let eights : length new % 8 ≡ 0 = omega arith in
+    let none : at ≡ at + 0 = sym (add-zero at) in
+    let T =
+    turn file₀ new at room eights 0 before after file₀ file by refl (omega arith) refl (eb ∙ ap (λ (k : ℕ). elementAt 8 k file₀) none) ea
+    (ef ∙ ap (λ (k : ℕ). putAt 8 k after file₀) none) in
+    let kept : before′ ≡ elementAt 8 (at + 8) file = eb′ ∙ sym (ap (elementAt 8 (at + 8)) ef ∙ elementAt-put-after at after file₀ 8 8 (at + 8) (omega arith)) in
+    let R = turn file₀ new at room eights 8 before′ after′ file file′ by refl (omega arith) (T .upto) kept ea′ ef′ in
+    let counts : (f : ℕ → ℕ → ℕ) → Unmoved f → overBits f 64 before after + overBits f 64 before′ after′ ≡ overBytes f file₀ file′ =
+    λ f same. omega (arith, bytes-same f same file₀, T .counts f same, R .counts f same) in
+    all file₀ new at room eights 16 r d file′ by′ refl (omega arith) (omega arith) (R .upto)
+    (er ∙ counts rose rose-unmoved) (ed ∙ counts fell fell-unmoved)

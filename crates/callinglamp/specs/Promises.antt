@@ -33,7 +33,7 @@ EncodePromise settings fields r = Encodes settings fields (encodedSays r)
 abbrev pub PartnerPromise : Settings → ℕ → Partnered → Type 0
 PartnerPromise = words.PartnerPromise
 
--- what a step does to Z and ZA, the bits that toggled and those that were written. "execute 1, 2, 3, 4"
+-- what a step does to Z and ZA, the bits that rose, those that fell and those that were written. "execute 1, 2, 3, 4"
 abbrev pub ExecutePromise : Settings → ℕ → List ℕ → List ℕ → Executed → List ℕ → List ℕ → Type 0
 ExecutePromise = machine.ExecutePromise
 
@@ -41,8 +41,8 @@ ExecutePromise = machine.ExecutePromise
 abbrev pub PercentPromise : ℕ → ℕ → ℕ → Type 0
 PercentPromise toggled written r = r ≡ percentOf toggled written
 
--- "An accepted list leaves the final Z and ZA, and three numbers for each word .. in the report, whose rest stays." A refused one leaves all
--- as it was
+-- "An accepted list leaves the final Z and ZA", and "four numbers for each word" (document 02) "in the report, whose rest stays." A refused one leaves
+-- all as it was
 abbrev pub RunPromise : List ℕ → List ℕ → List ℕ → List ℕ → RunAnswer → List ℕ → List ℕ → List ℕ → Type 0
 RunPromise = runlist.RunPromise
 

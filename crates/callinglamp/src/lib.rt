@@ -52,7 +52,7 @@ pub fn percent(toggled: u32, written: u32) -> u64
     rate::percent(toggled, written)
 }
 
-// Runs a list on Z and ZA, and reports three numbers for each word. Refusals 1, 2, 7 to 10, which leave all three as they are.
+// Runs a list on Z and ZA, and reports four numbers for each word. Refusals 1, 2, 7 to 10, which leave all three as they are.
 pub fn run(list: &[u8], z: &mut [u8], za: &mut [u8], report: &mut [u32]) -> RunAnswer
     ensures { λ r. ⌜ RunPromise (now (list .entry)) (now (z .entry)) (now (za .entry)) (now (report .entry)) r (now (z .exit)) (now (za .exit)) (now (report .exit)) ⌝ }
 {

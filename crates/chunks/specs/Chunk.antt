@@ -11,6 +11,7 @@ use Rattle.elements.specs.Elements.{elementAt}
 use Rattle.lanes.specs.Lane.{laneStep}
 use Rattle.lanes.specs.Recipe.{Recipe, recipe}
 use Rattle.lanes.specs.Element.{newBytes}
+use Rattle.chunks.specs.declared.Pair.{Pair}
 
 -- elements whose lanes lie at even steps: from one to the next, so many lanes of the first source, and so many of the second
 abbrev pub evenly : ℕ → ℕ → Bool → Bool → ℕ → ℕ → Recipe
@@ -51,3 +52,7 @@ Apart lane n z x dx = x + (n - 1) * dx + lane / 8 ≤ length z
 -- the lanes and elements of words that write ZA: D's of 8 and 32 bits or of 16 and 64, E's of 16 and 32
 abbrev pub OfArray : ℕ → ℕ → Type 0
 OfArray lane wide = ((lane ≡ 8) × (wide ≡ 32)) ⊎ (((lane ≡ 16) × (wide ≡ 64)) ⊎ ((lane ≡ 16) × (wide ≡ 32)))
+
+-- 16 bytes, in two words
+abbrev pub InPair : List ℕ → Pair → Type 0
+InPair new r = (r .low ≡ elementAt 8 0 new) × (r .high ≡ elementAt 8 8 new)

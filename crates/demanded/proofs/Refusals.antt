@@ -134,13 +134,13 @@ module _ (list z za report : List ℕ) where
         in-z = λ head at t h. leads (refused ListEnds at) (at-z head at t ∙ rw (lt-leb (behind head at) (length list) h));
         in-count = λ head at t h r p e. leads (refused r p) (at-z head at t ∙ z-there head at h ∙ rw e);
         by-count = λ head at n from c h. leads (refused TooManyWords (behind head at)) (at-words head at n from c ∙ rw (lt-leb n mostWords h));
-        by-report = λ head at n from c h k. leads (refused BadLength 0) (at-words head at n from c ∙ rw (le-leb n mostWords h, lt-leb (3 * n) (length report) k));
-        in-words = λ head at n from c h k vs r p e. leads (refused r p) (at-words head at n from c ∙ rw (le-leb n mostWords h, le-leb (3 * n) (length report) k, e));
-        by-end = λ head at n from c h k ws p e u. leads (refused ExtraBytes p) (at-words head at n from c ∙ rw (le-leb n mostWords h, le-leb (3 * n) (length report) k, e, ne-eqb p (length list) u));
+        by-report = λ head at n from c h k. leads (refused BadLength 0) (at-words head at n from c ∙ rw (le-leb n mostWords h, lt-leb (4 * n) (length report) k));
+        in-words = λ head at n from c h k vs r p e. leads (refused r p) (at-words head at n from c ∙ rw (le-leb n mostWords h, le-leb (4 * n) (length report) k, e));
+        by-end = λ head at n from c h k ws p e u. leads (refused ExtraBytes p) (at-words head at n from c ∙ rw (le-leb n mostWords h, le-leb (4 * n) (length report) k, e, ne-eqb p (length list) u));
         accepted =
             λ head at n from c h k ws e. ap (λ (o : Ended). o .number)
             (leads (found (record { settings = settings head at; z = take (zLength (settings head at)) (drop at list); words = ws }))
-            (at-words head at n from c ∙ rw (le-leb n mostWords h, le-leb (3 * n) (length report) k, e, eq-eqb (length list) (length list) refl)));
+            (at-words head at n from c ∙ rw (le-leb n mostWords h, le-leb (4 * n) (length report) k, e, eq-eqb (length list) (length list) refl)));
       }
 
 -- ---- what a refused call leaves

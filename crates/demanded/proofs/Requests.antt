@@ -1,4 +1,4 @@
--- The record of specs/Requests.antt, proved. Assumes nothing.
+-- The records of specs/Requests.antt, proved. Assumes nothing.
 use Prim.Native.Nat.{ℕ, _≤_}
 use mathlib.Core.Path.{_≡_, refl, ap, subst}
 use mathlib.Core.Bool.{true, false}
@@ -19,7 +19,9 @@ use Rattle.spelling.specs.Rows.{syntaxAt}
 use Rattle.spelling.specs.Print.{printPaper}
 use Rattle.spelling.proofs.Theorems as texts
 use Rattle.spelling.proofs.Longest as longest
-use Rattle.demanded.specs.Requests.{RequestOne}
+use Rattle.demands.proofs.Execution as execution
+use Rattle.demands.proofs.Balance as balance
+use Rattle.demanded.specs.Requests.{RequestOne, RequestTwo}
 
 of-c1a20008 : (s : Settings) (f : Fields) → decodePaper s 0xC1A20008 ≡ (0, f)
     → spell false f ≡ text "smlsll za.s[w8, 0:3, vgx2], { z0.b-z1.b }, { z2.b-z3.b }"
@@ -46,4 +48,16 @@ request-one =
       numbers-of-words = λ t w p. described-exactly w (p .fields) .0 (p .says);
       no-longer = longest.no-longer;
       one-as-long = longest.one-as-long;
+    }
+
+pub request-two : RequestTwo
+request-two =
+    record {
+      each-counted = execution.each-counted;
+      word-balances = balance.word-balances;
+      run-balances = balance.run-balances;
+      list-balances = balance.list-balances;
+      rises-from-zeros = balance.rises-from-zeros;
+      falls-from-ones = balance.falls-from-ones;
+      bits-are = balance.bits-are;
     }

@@ -138,19 +138,20 @@ pub record Demand2 : Type 0 where
   pub za-stays : WheneverZa ElsewhereZa
   pub lengths-stay : Always SameLengths
   pub bytes-stay : Always StillBytes
-  -- "Toggled is the number of bits that differ in Z and ZA before and after"
+  -- "Toggled is the number of bits that differ in Z and ZA before and after"; of them some rise, and the others fall (RequestTwo)
   pub toggled-exact : Always CountsToggled
   -- "Written is 128 in A and B, VL in C, VL·group·4 in D, VL·group·2 in E"; VL is the length of a register
   pub written-exact : WrittenIs
   pub length-is-vl : LengthIsVL
   pub toggled-at-most-written : Always AtMostWritten
   pub written-at-most : Always FewWritten
-  -- "An accepted list leaves the final Z and ZA, and three numbers for each word (refusal or 0, toggled, written) in the report, whose rest stays. A word
-  -- refused with 3 or 4 changes no register and the run goes on"
+  -- "An accepted list leaves the final Z and ZA", and "four numbers for each word (refusal, rises, falls, written)" "in the report, whose rest stays. A
+  -- word refused with 3 or 4 changes no register and the run goes on"
   pub list-runs : ReportsAre
 
 -- "Words accepted in their turn, none saturating, none that writes a vector register naming its destination as a source: from the end state each
--- word's partner, in reverse order, is accepted, every byte returns, and each partner reports its word's counts"
+-- word's partner, in reverse order, is accepted, every byte returns, and each partner reports its word's counts": by document 02 "a partner's rises are
+-- its word's falls, and the other way round"
 pub record Demand3 : Type 0 where
   pub sweep-closes : SweepCloses
   -- "each word's partner .. is accepted": by `partner` and by `execute`

@@ -104,13 +104,13 @@ pub record ListInOrder (list z za report : List ℕ) : Type 0 where
       → (r : Refusal) (p : ℕ) → numberAt list (at + zLength (settingsOf head)) ≡ Fault r p → RefusesWith r p list z za report
   pub by-count : (head : List ℕ) (at n from : ℕ) → CountKnown list z za head at n from → mostWords < n
       → RefusesWith TooManyWords (at + zLength (settingsOf head)) list z za report
-  pub by-report : (head : List ℕ) (at n from : ℕ) → CountKnown list z za head at n from → n ≤ mostWords → length report < 3 * n
+  pub by-report : (head : List ℕ) (at n from : ℕ) → CountKnown list z za head at n from → n ≤ mostWords → length report < 4 * n
       → RefusesWith BadLength 0 list z za report
-  pub in-words : (head : List ℕ) (at n from : ℕ) → CountKnown list z za head at n from → n ≤ mostWords → 3 * n ≤ length report
+  pub in-words : (head : List ℕ) (at n from : ℕ) → CountKnown list z za head at n from → n ≤ mostWords → 4 * n ≤ length report
       → (vs : List ℕ) (r : Refusal) (p : ℕ) → numbersAt list from n ≡ fault vs r p → RefusesWith r p list z za report
-  pub by-end : (head : List ℕ) (at n from : ℕ) → CountKnown list z za head at n from → n ≤ mostWords → 3 * n ≤ length report
+  pub by-end : (head : List ℕ) (at n from : ℕ) → CountKnown list z za head at n from → n ≤ mostWords → 4 * n ≤ length report
       → (ws : List ℕ) (p : ℕ) → numbersAt list from n ≡ all ws p → p ≢ length list → RefusesWith ExtraBytes p list z za report
-  pub accepted : (head : List ℕ) (at n from : ℕ) → CountKnown list z za head at n from → n ≤ mostWords → 3 * n ≤ length report
+  pub accepted : (head : List ℕ) (at n from : ℕ) → CountKnown list z za head at n from → n ≤ mostWords → 4 * n ≤ length report
       → (ws : List ℕ) → numbersAt list from n ≡ all ws (length list) → runPaper list z za report .number ≡ 0
 
 -- ---- "every lent buffer keeps its contents"

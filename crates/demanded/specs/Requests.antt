@@ -13,6 +13,8 @@ use Rattle.pieces.specs.Pieces.{text}
 use Rattle.spelling.specs.Spell.{spell}
 use Rattle.spelling.specs.Print.{printPaper}
 use Rattle.spelling.specs.Language.{Spells, Reads}
+use Rattle.demands.specs.Execution.{Always, CountsEach}
+use Rattle.demands.specs.Balance.{BitsAre, Balances, RisesFromZeros, FallsFromOnes, RunBalances, ListBalances}
 use Rattle.spelling.specs.Theorems.{OneReading, PrintAfterRead, ReadAfterPrint, NoLonger, OneAsLong}
 
 -- One. "Arm's preferred assembler text for every word of the five families, in lower case with one fixed spacing, and a reader for it"
@@ -37,3 +39,19 @@ pub record RequestOne : Type 0 where
   -- no text is longer than the constant, and one is as long
   pub no-longer : NoLonger
   pub one-as-long : OneAsLong
+
+-- Two. "A rising bit and a falling bit cost different charge". That toggled, their sum, is what it was stands in Demand2, that a partner's rises are
+-- its word's falls in Demand3, the report's four numbers in Demand2 (`list-runs`), and 4n in Demand1 (`list-in-order`)
+pub record RequestTwo : Type 0 where
+  -- "The bit count at the bottom is to give two numbers": the bits that were 0 and are 1, and those that were 1 and are 0
+  pub each-counted : Always CountsEach
+  -- "ones at the end plus falls equals ones at the start plus rises": of every word, accepted or refused
+  pub word-balances : Always Balances
+  -- "Over any run", refused words included
+  pub run-balances : RunBalances
+  -- and of every accepted list, with the numbers of the tally
+  pub list-balances : ListBalances
+  -- rises are at most the bits that were 0, and falls at most those that were 1
+  pub rises-from-zeros : Always RisesFromZeros
+  pub falls-from-ones : Always FallsFromOnes
+  pub bits-are : BitsAre

@@ -16,7 +16,7 @@ use Rattle.words.specs.declared.Family.the-variants.{ByElement, Vector, Saturat
 use Rattle.words.specs.declared.Fields.{Fields}
 use Rattle.elements.specs.Elements.{elementOf}
 use Rattle.lanes.specs.Lane.{step}
-use Rattle.bits.proofs.Bits.{toggled-same}
+use Rattle.bits.proofs.Bits.{rises-same, falls-same}
 use Rattle.recipes.specs.Recipe.{recipeOf, newLength, perSource}
 use Rattle.lanes.specs.Element.{newElement}
 use Rattle.recipes.proofs.Inside.{in-half}
@@ -26,7 +26,7 @@ use Rattle.machine.specs.Loop.{IntoZa}
 use Rattle.machine.proofs.Stepping.{steppedZ, steppedZa, written-z, written-za}
 use Rattle.machine.proofs.Grid.{rows-distinct, row-lt}
 use Rattle.machine.proofs.Array.{grid, first-multiple, passes}
-use Rattle.demands.specs.Execution.{VL, Accepted, KeepsIfRefused, SameLengths, StillBytes, CountsToggled, AtMostWritten}
+use Rattle.demands.specs.Execution.{VL, Accepted, KeepsIfRefused, SameLengths, StillBytes, CountsEach, AtMostWritten}
 use Rattle.demands.specs.Execution.{ElementsA, ElementsB, ElementsC, ElementsZa}
 use Rattle.demands.specs.Execution.{zaVector, Among, First, Distinct, Exact}
 use Rattle.demands.proofs.Effects.{z-length, z-bytes, z-few, z-elsewhere, z-element, za-length, za-bytes, za-few, among, za-elsewhere, za-element}
@@ -61,18 +61,18 @@ module _ (s : Settings) (w : ℕ) (f : Fields) (z za : List ℕ) (a : Accepted s
       (λ _ b c. (z-bytes s v f g z (a .z-exact) b, c))
       (λ i b c. (b, za-bytes s v-za f g i z za (a .za-exact) c))
 
-  pub step-toggled : CountsToggled z za (stepped s f z za)
-  step-toggled = by-step s f z za (CountsToggled z za) (λ _. refl) (λ _. refl)
+  pub step-each : CountsEach z za (stepped s f z za)
+  step-each = by-step s f z za (CountsEach z za) (λ _. (refl, refl)) (λ _. (refl, refl))
 
   pub step-few : AtMostWritten z za (stepped s f z za)
   step-few =
       by-step s f z za (AtMostWritten z za)
-      (λ i. rw (toggled-same za, written-z s f (a .valid) i) (omega (arith, z-few s v f g z (a .z-exact))))
+      (λ i. rw (rises-same za, falls-same za, written-z s f (a .valid) i) (omega (arith, z-few s v f g z (a .z-exact))))
       (λ i.
       let k : ℕ = perSource (f .family) in
       let e : f .group * k * (8 * arrayBytes s) ≡ VL s * f .group * k =
       rw array-bits (mul-comm (f .group * k) (VL s) ∙ sym (mul-assoc (VL s) (f .group) k)) in
-      rw (toggled-same z, written-za s f i) (omega (arith, za-few s v-za f g i z za (a .za-exact))))
+      rw (rises-same z, falls-same z, written-za s f i) (omega (arith, za-few s v-za f g i z za (a .za-exact))))
 
   -- ---- the elements that are new, by the family's recipe
 

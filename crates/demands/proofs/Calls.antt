@@ -13,8 +13,8 @@ use Rattle.machine.specs.Run.{Report, reportOf, Run, PerWord, reportFirst, runO
 use Rattle.machine.specs.declared.Executed.{Executed}
 use Rattle.machine.specs.declared.Executed.the-variants.{Done, Refused}
 use Rattle.machine.proofs.Answers.{executed-known}
-use Rattle.demands.specs.Sweep.{there, undoPaper, AcceptedInTurn, acceptedWith}
-use Rattle.demands.specs.Calls.{Promise, Calls, none, next, Followed, UndoCalls, AllDone, CallersSee}
+use Rattle.demands.specs.Sweep.{there, undoPaper, AcceptedInTurn, ofPartner}
+use Rattle.demands.specs.Calls.{Promise, Calls, none, next, Followed, UndoCalls, AllDone, partnerAnswers, CallersSee}
 use Rattle.demands.proofs.Sweep.{undo-word, undo-refused, sweep-closes}
 
 -- ---- the two calls of the way back
@@ -68,10 +68,11 @@ module _ (each : PerWord) (P : Promise)
 -- ---- the answers, in reverse order
 
 -- the reports that the theorem gives the partners are those of the answers
-said-back : (rs before : List Executed) → AllDone rs → reverseAux (map acceptedWith (map said rs)) (map said before) ≡ map said (reverseAux rs before)
+said-back : (rs before : List Executed) → AllDone rs
+    → reverseAux (map ofPartner (map said rs)) (map said before) ≡ map said (reverseAux (map partnerAnswers rs) before)
 unfolding said
 said-back [] before d = refl
-said-back (Done c ∷ rs) before d = said-back rs (Done c ∷ before) d
+said-back (Done c ∷ rs) before d = said-back rs (partnerAnswers (Done c) ∷ before) d
 said-back (Refused r ∷ rs) before d = absurd d
 
 -- an answer is known by its report
@@ -93,11 +94,11 @@ callers-see s ws z za z₁ za₁ z₂ za₂ rs qs bz bza forward done c p backwa
     let undone : runOf (undoPaper s) (reverse ws) z₁ za₁ ≡ record { z = z₂; za = za₂; reports = map said qs } =
     calls-run (undoPaper s) (UndoCalls s) (undo-says s) backward in
     let closed = sweep-closes s ws z za bz bza (calls-accepted (executePaper s) (ExecutePromise s) (λ w z za r z′ za′ e. e) forward done) c p in
-    let same : _≡_ {A = Run} (record { z = z₂; za = za₂; reports = map said qs }) (record { z = z; za = za; reports = map said (reverse rs) }) =
+    let same : _≡_ {A = Run} (record { z = z₂; za = za₂; reports = map said qs }) (record { z = z; za = za; reports = map said (reverse (map partnerAnswers rs)) }) =
     sym undone
-    ∙ subst (λ (t : Run). runOf (undoPaper s) (reverse ws) (t .z) (t .za) ≡ record { z = z; za = za; reports = reverse (map acceptedWith (t .reports)) }) ran closed
+    ∙ subst (λ (t : Run). runOf (undoPaper s) (reverse ws) (t .z) (t .za) ≡ record { z = z; za = za; reports = reverse (map ofPartner (t .reports)) }) ran closed
     ∙ ap (λ (r : List Report). record { z = z; za = za; reports = r }) (said-back rs [] done) in (
-      all-known qs (reverse rs) (ap (λ (t : Run). t .reports) same),
+      all-known qs (reverse (map partnerAnswers rs)) (ap (λ (t : Run). t .reports) same),
       ap (λ (t : Run). t .z) same,
       ap (λ (t : Run). t .za) same,
     )

@@ -16,12 +16,12 @@ use Rattle.settings.specs.Valid.{vectorBytes, arrayBytes}
 use Rattle.settings.specs.declared.Settings.{Settings}
 use Rattle.words.specs.Ranges.{Ranges}
 use Rattle.words.specs.declared.Fields.{Fields}
-use Rattle.elements.specs.Elements.{elementOf}
+use Rattle.elements.specs.Elements.{elementOf, splice}
 use Rattle.elements.proofs.Elements.{Bytes, elementAt-take, Bytes-splice}
 use Rattle.elements.proofs.Files.{next, room, length-splice, splice-before, splice-after}
 use Rattle.elements.proofs.Files.{vectorAt-renewed, length-replaced, Bytes-replaced}
 use Rattle.bits.specs.Bits.{toggled}
-use Rattle.bits.proofs.Bits.{differ-unmoved, differ-once, bytes-splice-le}
+use Rattle.bits.proofs.Bits.{differ-unmoved, differ-once, bytes-splice-le, toggled-differs}
 use Rattle.bits.proofs.Files.{bytes-replaced-le}
 use Rattle.recipes.specs.Recipe.{recipeOf, newLength, perSource}
 use Rattle.lanes.specs.Element.{newElement, newBytes}
@@ -62,7 +62,9 @@ module _ (s : Settings) (v : VectorLength (vectorBytes s)) (f : Fields) (g : Ran
   z-bytes b = rw (← register-is s v f g z z-long) (Bytes-splice at x z (Bytes-newBytes (recipeOf (f .family) f 0) n _ _ _) b)
 
   pub z-few : toggled z (zAfter s f z) ≤ 8 * newLength (f .family) (vectorBytes s)
-  z-few = rw (← register-is s v f g z z-long) (omega (arith, long, bytes-splice-le differ differ-once differ-unmoved at x z fit))
+  z-few =
+      rw (← register-is s v f g z z-long)
+      (omega (arith, long, toggled-differs z (splice at x z), bytes-splice-le differ differ-once differ-unmoved at x z fit))
 
   -- the bytes outside the new ones
   pub z-elsewhere : (i : ℕ) → (i < f .destination * vectorBytes s) ⊎ (f .destination * vectorBytes s + newLength (f .family) (vectorBytes s) ≤ i)
@@ -128,7 +130,7 @@ module _ (s : Settings) (v : VectorLength (arrayBytes s)) (f : Fields) (g : Rang
 
   pub za-few : toggled za (zaAfter s f z za) ≤ f .group * perSource (f .family) * (8 * arrayBytes s)
   za-few =
-      rw (← array-is s v f g into z za long)
+      rw (toggled-differs za (zaAfter s f z za), ← array-is s v f g into z za long)
       (bytes-replaced-le differ differ-unmoved at-za new-za (arrayBytes s) (arrayBytes s) za differ-once (f .group * k)
       (placed s v f g into z za long) (place-distinct (grid s v f g into)))
 

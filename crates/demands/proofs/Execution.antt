@@ -11,19 +11,19 @@ use Rattle.settings.proofs.Lengths.{vector-bits, same-length}
 use Rattle.words.specs.declared.Family.{Family}
 use Rattle.words.specs.declared.Family.the-variants.{ByElement, Vector, Saturating, LongLong, Long}
 use Rattle.words.specs.declared.Fields.{Fields}
-use Rattle.bits.proofs.Bits.{toggled-same}
+use Rattle.bits.proofs.Bits.{rises-same, falls-same, toggled-differs}
 use Rattle.recipes.specs.Recipe.{perSource}
-use Rattle.machine.specs.Execute.{Outcome, refusedWith, writesZa, stepped}
+use Rattle.machine.specs.Execute.{Outcome, executePaper, refusedWith, writesZa, stepped}
 use Rattle.machine.specs.Step.{zAfter, zaAfter}
 use Rattle.machine.specs.Loop.{IntoZa}
 use Rattle.machine.proofs.Stepping.{steppedTo}
 use Rattle.machine.proofs.Small.{counts-small}
 use Rattle.demands.specs.Execution.{VL, LengthIsVL, Accepted, AcceptedSteps, AcceptedExactly, AlwaysInOrder}
-use Rattle.demands.specs.Execution.{Always, KeepsIfRefused, SameLengths, StillBytes, CountsToggled, AtMostWritten, FewWritten}
+use Rattle.demands.specs.Execution.{Always, KeepsIfRefused, SameLengths, StillBytes, CountsEach, CountsToggled, AtMostWritten, FewWritten}
 use Rattle.demands.specs.Execution.{Whenever, ElementsA, ElementsB, ElementsC, ElementsZa, WrittenIs, ElsewhereZ, ZElsewhere, ElsewhereZa}
 use Rattle.demands.specs.Execution.{WheneverZa, First, Distinct, Exact}
 use Rattle.demands.proofs.Outcomes.{accepted, in-order, IsRefused, refused-or-accepted, stepped-number}
-use Rattle.demands.proofs.Accepted.{step-accepts, step-lengths, step-bytes, step-toggled, step-few}
+use Rattle.demands.proofs.Accepted.{step-accepts, step-lengths, step-bytes, step-each, step-few}
 use Rattle.demands.proofs.Accepted.{elements-a, elements-b, elements-c, elements-d, elements-e, out-z, out-za, first, distinct, exact}
 
 -- ---- VL
@@ -60,7 +60,7 @@ always P k l s w z za =
     (refused-or-accepted s w z za)
 
 pub refused-keeps : Always KeepsIfRefused
-refused-keeps = always KeepsIfRefused (λ n z za h _. (refl, refl, refl, refl)) step-accepts
+refused-keeps = always KeepsIfRefused (λ n z za h _. (refl, refl, refl, refl, refl)) step-accepts
 
 pub lengths-kept : Always SameLengths
 lengths-kept = always SameLengths (λ n z za h. (refl, refl)) step-lengths
@@ -68,14 +68,20 @@ lengths-kept = always SameLengths (λ n z za h. (refl, refl)) step-lengths
 pub bytes-kept : Always StillBytes
 bytes-kept = always StillBytes (λ n z za h b c. (b, c)) step-bytes
 
+pub each-counted : Always CountsEach
+each-counted = always CountsEach (λ n z za h. (omega (arith, rises-same z, rises-same za), omega (arith, falls-same z, falls-same za))) step-each
+
 pub toggled-whole : Always CountsToggled
-toggled-whole = always CountsToggled (λ n z za h. rw (toggled-same z, toggled-same za)) step-toggled
+toggled-whole s w z za =
+    let o : Outcome = executePaper s w z za in
+    let e = each-counted s w z za in
+    omega (arith, e .0, e .1, toggled-differs z (o .z), toggled-differs za (o .za))
 
 pub toggled-le-written : Always AtMostWritten
 toggled-le-written = always AtMostWritten (λ n z za h. omega arith) step-few
 
 pub few-written : Always FewWritten
-few-written s w z za = counts-small s w z za .1
+few-written s w z za = counts-small s w z za .2
 
 -- ---- where a word of a family is accepted
 

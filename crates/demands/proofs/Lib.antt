@@ -11,3 +11,4 @@ pub mod Reading
 pub mod Lists
 pub mod Written
 pub mod Reports
+pub mod Balance

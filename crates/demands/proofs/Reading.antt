@@ -40,11 +40,11 @@ pub record Worded (list : List ℕ) (lent : Lent) (at : ℕ) (ws : List ℕ) : T
   pub from : ℕ
   pub count : numberAt list at ≡ Number (length ws) from
   pub few : length ws ≤ mostWords
-  pub reported : 3 * length ws ≤ lent .report
+  pub reported : 4 * length ws ≤ lent .report
   pub row : numbersAt list from (length ws) ≡ all ws (length list)
 
 module _ (list : List ℕ) (lent : Lent) (at : ℕ) (ws : List ℕ) where
-  worded-end : (n p : ℕ) → numberAt list at ≡ Number n p → n ≤ mostWords → 3 * n ≤ lent .report → (m : Numbers) → numbersAt list p n ≡ m → endedAt list m ≡ found ws → Worded list lent at ws
+  worded-end : (n p : ℕ) → numberAt list at ≡ Number n p → n ≤ mostWords → 4 * n ≤ lent .report → (m : Numbers) → numbersAt list p n ≡ m → endedAt list m ≡ found ws → Worded list lent at ws
   worded-end n p e h k (all vs q) f g =
       by-cond (eqb q (length list)) (found vs) (refused ExtraBytes q) (found ws)
       (λ t x.
@@ -63,9 +63,9 @@ module _ (list : List ℕ) (lent : Lent) (at : ℕ) (ws : List ℕ) where
 
   worded-number : (r : Read) → numberAt list at ≡ r → afterCount list lent at r ≡ found ws → Worded list lent at ws
   worded-number (Number n p) e =
-      by-cond (leb n mostWords) (cond (leb (3 * n) (lent .report)) (endedAt list (numbersAt list p n)) (refused BadLength 0)) (refused TooManyWords at) (found ws)
-      (λ h. by-cond (leb (3 * n) (lent .report)) (endedAt list (numbersAt list p n)) (refused BadLength 0) (found ws)
-      (λ k. worded-end n p e (leb-true n mostWords h) (leb-true (3 * n) (lent .report) k) (numbersAt list p n) refl)
+      by-cond (leb n mostWords) (cond (leb (4 * n) (lent .report)) (endedAt list (numbersAt list p n)) (refused BadLength 0)) (refused TooManyWords at) (found ws)
+      (λ h. by-cond (leb (4 * n) (lent .report)) (endedAt list (numbersAt list p n)) (refused BadLength 0) (found ws)
+      (λ k. worded-end n p e (leb-true n mostWords h) (leb-true (4 * n) (lent .report) k) (numbersAt list p n) refl)
       (λ k. not-refused ws BadLength 0))
       (λ h. not-refused ws TooManyWords at)
   worded-number (Fault r p) e = not-refused ws r p
@@ -141,7 +141,7 @@ pub record Causes (list : List ℕ) (lent : Lent) (Q : Refusal → ℕ → Type 
   pub settings : Q BadSettings 0
   pub lengths : (head : List ℕ) (at : ℕ) → numbersAt list 0 7 ≡ all head at → validSettings (settingsOf head) ≡ true
       → rightLengths (settingsOf head) (lent .z) (lent .za) ≡ false → Q BadLength 0
-  pub report : (n : ℕ) → n ≤ mostWords → lent .report < 3 * n → Q BadLength 0
+  pub report : (n : ℕ) → n ≤ mostWords → lent .report < 4 * n → Q BadLength 0
   pub many : (p : ℕ) → p ≤ length list → Q TooManyWords p
   pub extra : (p : ℕ) → p ≤ length list → Q ExtraBytes p
 
@@ -157,9 +157,9 @@ module _ (list : List ℕ) (lent : Lent) (Q : Refusal → ℕ → Type 0) (c : C
   by-count : (at : ℕ) (r : Read) → at ≤ length list → numberAt list at ≡ r → Refusing Q (afterCount list lent at r)
   by-count at (Number n p) h e =
       cond-holds (Refusing Q) (leb n mostWords) _ (refused TooManyWords at)
-      (λ t. cond-holds (Refusing Q) (leb (3 * n) (lent .report)) _ (refused BadLength 0)
+      (λ t. cond-holds (Refusing Q) (leb (4 * n) (lent .report)) _ (refused BadLength 0)
       (λ k. by-end p n (numbersAt list p n) (number-within list at n p e .inside) refl)
-      (λ k. c .report n (leb-true n mostWords t) (leb-false (3 * n) (lent .report) k)))
+      (λ k. c .report n (leb-true n mostWords t) (leb-false (4 * n) (lent .report) k)))
       (λ t. c .many at h)
   by-count at (Fault r p) h e = let f = number-fault list at r p e in of-number r p (omega arith) (f .1)
 
@@ -229,7 +229,7 @@ module _ (list t : List ℕ) where
   far-count : (lent : Lent) (at : ℕ) (r : Read) → at + 2 + mostWords * 5 < length list → numberAt list at ≡ r → afterCount (list ++ t) lent at r ≡ afterCount list lent at r
   far-count lent at (Number n p) h e =
       cond-then (leb n mostWords) _ _ (refused TooManyWords at)
-      (λ k. cond-then (leb (3 * n) (lent .report)) _ _ (refused BadLength 0)
+      (λ k. cond-then (leb (4 * n) (lent .report)) _ _ (refused BadLength 0)
       (λ _.
       let few = leb-true n mostWords k in
       let w = number-within list at n p e in

@@ -19,8 +19,8 @@ use Rattle.machine.specs.Loop.{Ready}
 use Rattle.machine.specs.Run.{Report, reportOf, Run, PerWord, runOf}
 use Rattle.machine.proofs.Executing.{is-ready, still-ready}
 use Rattle.runlist.specs.Plan.{lengthsOf, Found, found, refused, Asked, planOf}
-use Rattle.runlist.specs.RunList.{threes, carriedOut, runPaper}
-use Rattle.demands.specs.Reports.{ledTo, turnOf, threeAt, ZeroThreeFour, InTurn, AllInTurn, ReportsAre}
+use Rattle.runlist.specs.RunList.{fours, carriedOut, runPaper}
+use Rattle.demands.specs.Reports.{ledTo, turnOf, fourAt, ZeroThreeFour, InTurn, AllInTurn, ReportsAre}
 use Rattle.demands.proofs.Execution.{accepted-exactly, refused-in-order, refused-keeps, lengths-kept}
 use Rattle.demands.proofs.Lists.{lengths-hold}
 
@@ -49,22 +49,23 @@ unfolding runOf
 as-many each [] z za = refl
 as-many each (w ∷ ws) z za = ap suc (as-many each ws (each w z za .z) (each w z za .za))
 
--- ---- three numbers for each report
+-- ---- four numbers for each report
 
-length-threes : (rs : List Report) → length (threes rs) ≡ 3 * length rs
-unfolding threes
-length-threes [] = refl
-length-threes (r ∷ rs) = omega (arith, length-threes rs)
+length-fours : (rs : List Report) → length (fours rs) ≡ 4 * length rs
+unfolding fours
+length-fours [] = refl
+length-fours (r ∷ rs) = omega (arith, length-fours rs)
 
-three-at : (rs : List Report) (rest : List ℕ) (i : ℕ) (d : Report) → i < length rs → threeAt (threes rs ++ rest) i ≡ getD rs i d
-unfolding threes
-three-at [] rest i d h = absurd (omega arith)
-three-at (r ∷ rs) rest zero d h = refl
-three-at (r ∷ rs) rest (suc i) d h =
-    let third : 3 * suc i + 2 ≡ suc (suc (suc (3 * i + 2))) = omega arith in
-    let second : 3 * suc i + 1 ≡ suc (suc (suc (3 * i + 1))) = omega arith in
-    let first : 3 * suc i ≡ suc (suc (suc (3 * i))) = omega arith in
-    rw (third, second, first) (three-at rs rest i d (omega arith))
+four-at : (rs : List Report) (rest : List ℕ) (i : ℕ) (d : Report) → i < length rs → fourAt (fours rs ++ rest) i ≡ getD rs i d
+unfolding fours
+four-at [] rest i d h = absurd (omega arith)
+four-at (r ∷ rs) rest zero d h = refl
+four-at (r ∷ rs) rest (suc i) d h =
+    let fourth : 4 * suc i + 3 ≡ suc (suc (suc (suc (4 * i + 3)))) = omega arith in
+    let third : 4 * suc i + 2 ≡ suc (suc (suc (suc (4 * i + 2)))) = omega arith in
+    let second : 4 * suc i + 1 ≡ suc (suc (suc (suc (4 * i + 1)))) = omega arith in
+    let first : 4 * suc i ≡ suc (suc (suc (suc (4 * i)))) = omega arith in
+    rw (fourth, third, second, first) (four-at rs rest i d (omega arith))
 
 -- ---- a word of an accepted list is accepted, or refused with 3 or 4
 
@@ -103,44 +104,44 @@ module _ (a : Asked) (za report : List ℕ) (r : Ready (a .settings) (a .z) za) 
   run = runOf (executePaper (a .settings)) (a .words) (a .z) za
 
   abbrev left : List ℕ
-  left = threes (run .reports) ++ drop (3 * length (a .words)) report
+  left = fours (run .reports) ++ drop (4 * length (a .words)) report
 
   in-turn : (i : ℕ) → i < length (a .words) → InTurn a za left i
   in-turn i h =
       let o : Outcome = turnOf a za i in
       let each = executePaper (a .settings) in
-      let says : threeAt left i ≡ reportOf o =
-      three-at (run .reports) (drop (3 * length (a .words)) report) i (0, 0, 0) (omega (arith, as-many each (a .words) (a .z) za))
-      ∙ report-at each (a .words) (a .z) za i (0, 0, 0) h in
+      let says : fourAt left i ≡ reportOf o =
+      four-at (run .reports) (drop (4 * length (a .words)) report) i (0, 0, 0, 0) (omega (arith, as-many each (a .words) (a .z) za))
+      ∙ report-at each (a .words) (a .z) za i (0, 0, 0, 0) h in
       let on = next-state each (a .words) (a .z) za i h in
-      let number : threeAt left i .0 ≡ o .number = ap (λ (x : Report). x .0) says in
+      let number : fourAt left i .0 ≡ o .number = ap (λ (x : Report). x .0) says in
       record {
         says = says;
         refusal = subst ZeroThreeFour (sym number) (zero-three-four (a .settings) _ _ _ (ready-there (a .settings) (a .words) (a .z) za i r));
         refused =
             λ n. let k = refused-keeps (a .settings) (getD (a .words) i 0) (ledTo a za i .z) (ledTo a za i .za) (λ e. n (number ∙ e)) in (
-              (ap (λ (x : Report). x .1) says ∙ k .2, ap (λ (x : Report). x .2) says ∙ k .3),
+              (ap (λ (x : Report). x .1) says ∙ k .2, ap (λ (x : Report). x .2) says ∙ k .3, ap (λ (x : Report). x .3) says ∙ k .4),
               (on .0 ∙ k .0, on .1 ∙ k .1),
             );
         goes-on = on;
       }
 
-  length-left : length (threes (run .reports)) ≡ 3 * length (a .words)
-  length-left = length-threes (run .reports) ∙ ap (λ (n : ℕ). 3 * n) (as-many (executePaper (a .settings)) (a .words) (a .z) za)
+  length-left : length (fours (run .reports)) ≡ 4 * length (a .words)
+  length-left = length-fours (run .reports) ∙ ap (λ (n : ℕ). 4 * n) (as-many (executePaper (a .settings)) (a .words) (a .z) za)
 
-  left-long : 3 * length (a .words) ≤ length report → length left ≡ length report
+  left-long : 4 * length (a .words) ≤ length report → length left ≡ length report
   left-long room =
-      length-append (threes (run .reports)) (drop (3 * length (a .words)) report)
-      ∙ omega (arith, length-left, length-drop (3 * length (a .words)) report, room)
+      length-append (fours (run .reports)) (drop (4 * length (a .words)) report)
+      ∙ omega (arith, length-left, length-drop (4 * length (a .words)) report, room)
 
-  rest-stays : (i : ℕ) → 3 * length (a .words) ≤ i → getD left i 0 ≡ getD report i 0
+  rest-stays : (i : ℕ) → 4 * length (a .words) ≤ i → getD left i 0 ≡ getD report i 0
   rest-stays i h =
-      let n : ℕ = 3 * length (a .words) in
+      let n : ℕ = 4 * length (a .words) in
       let k : ℕ = i - n in
-      let at : i ≡ length (threes (run .reports)) + k = omega (arith, length-left, h) in
+      let at : i ≡ length (fours (run .reports)) + k = omega (arith, length-left, h) in
       let there : n + k ≡ i = omega (arith, h) in
       ap (λ (j : ℕ). getD left j 0) at
-      ∙ getD-append-add (threes (run .reports)) (drop n report) k 0
+      ∙ getD-append-add (fours (run .reports)) (drop n report) k 0
       ∙ getD-drop n report k 0
       ∙ ap (λ (j : ℕ). getD report j 0) there
 

@@ -17,7 +17,7 @@ use Rattle.machine.specs.Execute.{Outcome, refusedWith, stepped, executePaper}
 use Rattle.machine.specs.Run.{Report, reportOf, Run, PerWord, reportFirst, runOf}
 use Rattle.demands.specs.Execution.{Accepted}
 use Rattle.demands.specs.Sweep.{there, undoPaper}
-use Rattle.demands.specs.Sweep.{AcceptedInTurn, NotSaturating, SourcesApart, NotItsOwnSource, acceptedWith, SweepCloses}
+use Rattle.demands.specs.Sweep.{AcceptedInTurn, NotSaturating, SourcesApart, NotItsOwnSource, ofPartner, SweepCloses}
 use Rattle.demands.specs.Sweep.{BothAccept, UndoAccepts, PartnersAccepted}
 use Rattle.demands.proofs.Execution.{accepted-exactly, accepted-steps, lengths-kept, bytes-kept}
 use Rattle.demands.proofs.Undoing.{undoneFrom, step-back}
@@ -77,13 +77,13 @@ way-back : (s : Settings) (ws acc z za z₀ za₀ : List ℕ) (before : List Rep
     → AcceptedInTurn (executePaper s) ws z za → Each (NotSaturating s) ws → Each (NotItsOwnSource s) ws
     → runOf (undoPaper s) acc z za ≡ record { z = z₀; za = za₀; reports = before }
     → runOf (undoPaper s) (reverseAux ws acc) (there s ws z za .z) (there s ws z za .za)
-    ≡ record { z = z₀; za = za₀; reports = reverseAux (map acceptedWith (there s ws z za .reports)) before }
+    ≡ record { z = z₀; za = za₀; reports = reverseAux (map ofPartner (there s ws z za .reports)) before }
 unfolding runOf
 way-back s [] acc z za z₀ za₀ before bz bza a c p e = e
 way-back s (w ∷ ws) acc z za z₀ za₀ before bz bza a c p e =
     let o : Outcome = executePaper s w z za in
     let b = bytes-kept s w z za bz bza in
-    way-back s ws (w ∷ acc) (o .z) (o .za) z₀ za₀ (acceptedWith (reportOf o) ∷ before) (b .0) (b .1) (a .1) (c .1) (p .1)
+    way-back s ws (w ∷ acc) (o .z) (o .za) z₀ za₀ (ofPartner (reportOf o) ∷ before) (b .0) (b .1) (a .1) (c .1) (p .1)
     (ap (λ (u : Outcome). reportFirst u (runOf (undoPaper s) acc (u .z) (u .za))) (word-undone s w z za bz bza (a .0) (c .0) (p .0))
     ∙ ap (reportFirst (undoneFrom o z za)) e)
 
@@ -108,9 +108,9 @@ undo-accepts s w z za =
 abbrev Zero : Report → Type 0
 Zero r = r .0 ≡ 0
 
-zeros-back : (rs before : List Report) → Each Zero before → Each Zero (reverseAux (map acceptedWith rs) before)
+zeros-back : (rs before : List Report) → Each Zero before → Each Zero (reverseAux (map ofPartner rs) before)
 zeros-back [] before h = h
-zeros-back (r ∷ rs) before h = zeros-back rs (acceptedWith r ∷ before) (refl, h)
+zeros-back (r ∷ rs) before h = zeros-back rs (ofPartner r ∷ before) (refl, h)
 
 by-reports : (each : PerWord) (ws z za : List ℕ) → Each Zero (runOf each ws z za .reports) → AcceptedInTurn each ws z za
 unfolding runOf

@@ -21,7 +21,7 @@ use Rattle.lanes.specs.Element.{newBytes}
 use Rattle.machine.specs.Step.{register, newRegister, zAfter}
 use Rattle.machine.specs.Execute.{stepped, executePaper}
 use Rattle.machine.specs.Run.{Report, Run}
-use Rattle.demands.specs.Sweep.{SourcesApart, acceptedWith}
+use Rattle.demands.specs.Sweep.{SourcesApart, ofPartner}
 use Rattle.demands.specs.SweepExamples.{Given, sweepSettings, startZ, startZa, Answer, sweepAnswer, ownFirst, ownSecond, saturates, unknown, wrongMode, answers-hold}
 use Rattle.demands.specs.SweepExamples.{closing, ClosesFrom, AllBytes, AllAccepted, NoneSaturating, NoneItsOwnSource, AllMet, StaysOpen, EachNeeded}
 use Rattle.demands.proofs.Sweep.{sweep-closes}
@@ -42,12 +42,12 @@ module _ (bytes r : ℕ) (g : Given) (x : Answer) (is : sweepAnswer bytes r g �
       ∙ ap (λ (a : Answer). a .start) is)
 
   -- the first partner was not accepted
-  refused : first-number (x .backward) ≢ first-number (reverse (map acceptedWith (x .forward))) → ClosesFrom g → ⊥
+  refused : first-number (x .backward) ≢ first-number (reverse (map ofPartner (x .forward))) → ClosesFrom g → ⊥
   unfolding sweepAnswer
   refused h e =
       h (sym (ap (λ (a : Answer). first-number (a .backward)) is)
       ∙ ap (λ (y : Run). first-number (y .reports)) e
-      ∙ ap (λ (a : Answer). first-number (reverse (map acceptedWith (a .forward)))) is)
+      ∙ ap (λ (a : Answer). first-number (reverse (map ofPartner (a .forward)))) is)
 
 -- ---- the lines of the table
 

@@ -21,7 +21,7 @@ use Rattle.words.proofs.Ranges.{in-family}
 use Rattle.elements.specs.Files.{vectorAt}
 use Rattle.elements.proofs.Elements.{Bytes}
 use Rattle.elements.proofs.Files.{room, length-vectorAt, Bytes-vectorAt, renewed-undone}
-use Rattle.bits.proofs.Bits.{toggled-comm}
+use Rattle.bits.proofs.Bits.{rises-turned}
 use Rattle.recipes.specs.Recipe.{recipeOf, newLength}
 use Rattle.recipes.proofs.Inside.{new-length, widths, length-newBytes}
 use Rattle.recipes.proofs.Undone.{saturates-c, recipe-turned, undo-vector, undo-whole}
@@ -96,14 +96,16 @@ module _ (s : Settings) (v : VectorLength (arrayBytes s)) (f : Fields) (g : Rang
 
 -- ---- the step
 
--- the outcome `o` is undone: back to z and za, with its counts
+-- the outcome `o` is undone: back to z and za. What rose falls, and what fell rises
 abbrev pub undoneFrom : Outcome → List ℕ → List ℕ → Outcome
-undoneFrom o z za = record { number = 0; toggled = o .toggled; written = o .written; z = z; za = za }
+undoneFrom o z za = record { number = 0; rises = o .falls; falls = o .rises; written = o .written; z = z; za = za }
 
--- a step and the step back change the same bits
+-- a step and the step back change the same bits, each the other way
 same-counts : (s : Settings) (f : Fields) (z za z′ za′ : List ℕ) → steppedTo s f z′ za′ z za ≡ undoneFrom (steppedTo s f z za z′ za′) z za
 same-counts s f z za z′ za′ =
-    ap (λ (t : ℕ). record { number = 0; toggled = t; written = written s f; z = z; za = za }) (ap₂ _+_ (toggled-comm z′ z) (toggled-comm za′ za))
+    ap₂ (λ (r d : ℕ). record { number = 0; rises = r; falls = d; written = written s f; z = z; za = za })
+    (ap₂ _+_ (rises-turned z′ z) (rises-turned za′ za))
+    (sym (ap₂ _+_ (rises-turned z z′) (rises-turned za za′)))
 
 -- a word that writes a V register has single source registers, and neither is the destination
 abbrev Single : Fields → Type 0

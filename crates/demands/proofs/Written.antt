@@ -159,10 +159,10 @@ alike-read vl features modes w b n x lent hv hf hm hw hx fits =
 longestAsked : Asked
 longestAsked = alike 512 0 0 4294967295 (replicate 2048 0) 1024 4294967295
 
-longest-read : planOf (listOf longestAsked) (record { z = 2048; za = 4096; report = 3072 }) ≡ found longestAsked
+longest-read : planOf (listOf longestAsked) (record { z = 2048; za = 4096; report = 4096 }) ≡ found longestAsked
 unfolding longestAsked alike validSettings vectorBytes arrayBytes
 longest-read =
-    alike-read 512 0 0 4294967295 (replicate 2048 0) 1024 4294967295 (record { z = 2048; za = 4096; report = 3072 }) (lit< tt) (lit< tt) (lit< tt) (lit< tt) (lit< tt)
+    alike-read 512 0 0 4294967295 (replicate 2048 0) 1024 4294967295 (record { z = 2048; za = 4096; report = 4096 }) (lit< tt) (lit< tt) (lit< tt) (lit< tt) (lit< tt)
     record { valid = refl; exact = refl; z-bytes = refl; few = lit≤ tt; reported = lit≤ tt }
 
 longest-long : length (listOf longestAsked) ≡ longest
@@ -181,6 +181,6 @@ most-written = refl
 pub most-words : MostWords
 unfolding alike settingsOf validSettings vectorBytes arrayBytes
 most-words =
-    ap (λ (l : List ℕ). planOf l (lentWith 3072)) most-written
-    ∙ alike-read 128 12 3 0 (replicate 512 0x01) 1024 0 (lentWith 3072) (lit< tt) (lit< tt) (lit< tt) (lit< tt) (lit< tt)
+    ap (λ (l : List ℕ). planOf l (lentWith 4096)) most-written
+    ∙ alike-read 128 12 3 0 (replicate 512 0x01) 1024 0 (lentWith 4096) (lit< tt) (lit< tt) (lit< tt) (lit< tt) (lit< tt)
     record { valid = refl; exact = refl; z-bytes = refl; few = lit≤ tt; reported = lit≤ tt }

@@ -1,7 +1,7 @@
 -- Demand 3, as a caller of `execute` and `partner` sees it. The calls are known by their promises alone. proofs/Calls.antt proves the statement.
 use Prim.Native.Nat.{ℕ}
 use mathlib.Core.Path.{_≡_}
-use mathlib.Core.List.{List, [], _∷_, reverse}
+use mathlib.Core.List.{List, [], _∷_, map, reverse}
 use Rattle.laws.specs.Lists.{Each}
 use Rattle.settings.specs.declared.Settings.{Settings}
 use Rattle.words.specs.Partner.{PartnerPromise}
@@ -40,10 +40,15 @@ AllDone [] = Unit {0}
 AllDone (Done c ∷ rs) = AllDone rs
 AllDone (Refused r ∷ rs) = ⊥
 
--- whoever executes the words, sees all accepted, and goes back, gets the same answers in reverse order, and Z and ZA as they were
+-- what a partner answers where its word answered r: its rises are the word's falls, and the other way round
+abbrev pub partnerAnswers : Executed → Executed
+partnerAnswers (Done c) = Done (record { rises = c .falls; falls = c .rises; written = c .written })
+partnerAnswers (Refused r) = Refused r
+
+-- whoever executes the words, sees all accepted, and goes back, gets these answers in reverse order, and Z and ZA as they were
 abbrev pub CallersSee : Type 0
 CallersSee =
     (s : Settings) (ws z za z₁ za₁ z₂ za₂ : List ℕ) (rs qs : List Executed) → Bytes z → Bytes za
     → Calls (ExecutePromise s) ws z za rs z₁ za₁ → AllDone rs → Each (NotSaturating s) ws → Each (NotItsOwnSource s) ws
     → Calls (UndoCalls s) (reverse ws) z₁ za₁ qs z₂ za₂
-    → (qs ≡ reverse rs) × (z₂ ≡ z) × (za₂ ≡ za)
+    → (qs ≡ reverse (map partnerAnswers rs)) × (z₂ ≡ z) × (za₂ ≡ za)

@@ -14,7 +14,8 @@ use Rattle.words.specs.declared.Fields.{Fields}
 use Rattle.elements.specs.Elements.{Bytes, elementOf}
 use Rattle.elements.specs.Files.{vectorAt}
 use Rattle.lanes.specs.Lane.{laneStep, satStep}
-use Rattle.bits.specs.Bits.{toggled}
+use lib.Bits.{differ}
+use Rattle.bits.specs.Bits.{overBytes, rises, falls}
 use Rattle.machine.specs.Modes.{permits}
 use Rattle.machine.specs.Step.{register, stride, selected, firstVector, writesVector}
 use Rattle.machine.specs.Execute.{Outcome, refusedWith, stepped, executePaper}
@@ -71,7 +72,7 @@ Always P = (s : Settings) (w : ℕ) (z za : List ℕ) → P z za (executePaper s
 
 -- "A refusal returns its number and zeros, and every lent buffer keeps its contents"
 abbrev pub KeepsIfRefused : List ℕ → List ℕ → Outcome → Type 0
-KeepsIfRefused z za o = o .number ≢ 0 → (o .z ≡ z) × (o .za ≡ za) × (o .toggled ≡ 0) × (o .written ≡ 0)
+KeepsIfRefused z za o = o .number ≢ 0 → (o .z ≡ z) × (o .za ≡ za) × (o .rises ≡ 0) × (o .falls ≡ 0) × (o .written ≡ 0)
 
 abbrev pub SameLengths : List ℕ → List ℕ → Outcome → Type 0
 SameLengths z za o = (length (o .z) ≡ length z) × (length (o .za) ≡ length za)
@@ -80,13 +81,21 @@ SameLengths z za o = (length (o .z) ≡ length z) × (length (o .za) ≡ length 
 abbrev pub StillBytes : List ℕ → List ℕ → Outcome → Type 0
 StillBytes z za o = Bytes z → Bytes za → Bytes (o .z) × Bytes (o .za)
 
+-- "toggled is their sum" (document 02)
+abbrev pub toggledOf : Outcome → ℕ
+toggledOf o = o .rises + o .falls
+
 -- "Toggled is the number of bits that differ in Z and ZA before and after"
 abbrev pub CountsToggled : List ℕ → List ℕ → Outcome → Type 0
-CountsToggled z za o = o .toggled ≡ toggled z (o .z) + toggled za (o .za)
+CountsToggled z za o = toggledOf o ≡ overBytes differ z (o .z) + overBytes differ za (o .za)
+
+-- "A rising bit and a falling bit": one that was 0 and is 1, and one that was 1 and is 0
+abbrev pub CountsEach : List ℕ → List ℕ → Outcome → Type 0
+CountsEach z za o = (o .rises ≡ rises z (o .z) + rises za (o .za)) × (o .falls ≡ falls z (o .z) + falls za (o .za))
 
 -- a bit that changed was written
 abbrev pub AtMostWritten : List ℕ → List ℕ → Outcome → Type 0
-AtMostWritten z za o = o .toggled ≤ o .written
+AtMostWritten z za o = toggledOf o ≤ o .written
 
 -- VL·group·4 with the greatest VL and the greatest group
 abbrev pub FewWritten : List ℕ → List ℕ → Outcome → Type 0

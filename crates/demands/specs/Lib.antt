@@ -6,3 +6,4 @@ pub mod Calls
 pub mod Lists
 pub mod ListExamples
 pub mod Reports
+pub mod Balance

@@ -19,7 +19,7 @@ use Rattle.machine.specs.Step.{stride, selected, firstVector, someBelow, writes
 use Rattle.machine.specs.Execute.{stepped, executePaper}
 use Rattle.machine.specs.Run.{runOf}
 use Rattle.runlist.specs.Plan.{Lent, Asked, found, refused, wordsFrom, zFrom, settledFrom, settingsOf, planOf}
-use Rattle.runlist.specs.RunList.{Ended, noTally, tallied, threes, refusedAt, runPaper}
+use Rattle.runlist.specs.RunList.{Ended, noTally, tallied, fours, refusedAt, runPaper}
 use Rattle.demands.specs.Lists.{longest}
 
 longest-is : longest ≡ 7194
@@ -61,25 +61,25 @@ ranWith n tally report = record { number = 0; place = 0; words = n; tally = tall
 abbrev paperRun : ℕ → Ended
 paperRun n = runPaper paperList lentZ lentZa (lentReport n)
 
--- what it leaves; of a longer report the rest stays
+-- what it leaves: the first word only raises bits, and the third lets them fall. Of a longer report the rest stays
 abbrev paperRan : List ℕ → Ended
-paperRan rest = ranWith 3 (record { toggled = 2048; written = 2048 }) (0 ∷ 1024 ∷ 1024 ∷ 3 ∷ 0 ∷ 0 ∷ 0 ∷ 1024 ∷ 1024 ∷ rest)
+paperRan rest = ranWith 3 (record { rises = 1024; falls = 1024; written = 2048 }) (0 ∷ 1024 ∷ 0 ∷ 1024 ∷ 3 ∷ 0 ∷ 0 ∷ 0 ∷ 0 ∷ 0 ∷ 1024 ∷ 1024 ∷ rest)
 
 -- the ZA that its first word alone leaves
 abbrev firstZa : List ℕ
-firstZa = runPaper (beforeCount ++ 0x01 ∷ take 5 threeWords) lentZ lentZa (lentReport 3) .za
+firstZa = runPaper (beforeCount ++ 0x01 ∷ take 5 threeWords) lentZ lentZa (lentReport 4) .za
 
 -- the first word leaves −1 in each element of vectors 0 to 3 and 8 to 11, which the third takes back
-words-run : (paperRun 9 ≡ paperRan []) × (paperRun 11 ≡ paperRan (77 ∷ 77 ∷ []))
+words-run : (paperRun 12 ≡ paperRan []) × (paperRun 14 ≡ paperRan (77 ∷ 77 ∷ []))
     × (firstZa ≡ replicate 64 0xFF ++ replicate 64 0x00 ++ replicate 64 0xFF ++ replicate 64 0x00)
-unfolding runPaper planOf settingsOf settledFrom zFrom wordsFrom numbersAt numberAt numeral runOf tallied threes
+unfolding runPaper planOf settingsOf settledFrom zFrom wordsFrom numbersAt numberAt numeral runOf tallied fours
     executePaper stepped decodePaper decodeEnabled describe enables validSettings vectorBytes arrayBytes
     zaAfter newVector writesVector someBelow firstVector selected stride newBytes newElement renewed vectorAt vector elementAt lowBytes
     step laneStep accumulate product SInt Int low overBits overBytes
 words-run = (refl, refl, refl)
 
 no-words-run : runPaper (beforeCount ++ 0x00 ∷ []) lentZ lentZa [] ≡ ranWith 0 noTally []
-unfolding runPaper planOf settingsOf settledFrom zFrom wordsFrom numbersAt numberAt numeral runOf tallied threes validSettings vectorBytes arrayBytes
+unfolding runPaper planOf settingsOf settledFrom zFrom wordsFrom numbersAt numberAt numeral runOf tallied fours validSettings vectorBytes arrayBytes
 no-words-run = refl
 
 -- a refused list: every lent buffer keeps its contents
@@ -99,9 +99,9 @@ mostAsked = record { settings = settingsOf (128 ∷ 12 ∷ 3 ∷ 0 ∷ 0 ∷ 0 �
 
 -- proofs/Written.antt proves it by the law on lists that are written: to compute it takes longer than all else in this crate
 abbrev pub MostWords : Type 0
-MostWords = planOf (beforeCount ++ 0x80 ∷ 0x08 ∷ replicate 1024 0x00) (lentWith 3072) ≡ found mostAsked
+MostWords = planOf (beforeCount ++ 0x80 ∷ 0x08 ∷ replicate 1024 0x00) (lentWith 4096) ≡ found mostAsked
 
-one-too-many : planOf (beforeCount ++ 0x81 ∷ 0x08 ∷ replicate 1025 0x00) (lentWith 3075) ≡ refused TooManyWords 520
+one-too-many : planOf (beforeCount ++ 0x81 ∷ 0x08 ∷ replicate 1025 0x00) (lentWith 4100) ≡ refused TooManyWords 520
 unfolding planOf settingsOf settledFrom zFrom wordsFrom numbersAt numberAt numeral validSettings vectorBytes arrayBytes
 one-too-many = refl
 
@@ -120,34 +120,35 @@ refusing list report refusal place = record { list = list; report = report; refu
 abbrev refusedLists : List RefusedList
 refusedLists =
     -- 7: before a number, inside one, before the Z bytes, inside them, before n, before a word, inside one
-    refusing [] 9 ListEnds 0
-    ∷ refusing (take 3 firstNumbers) 9 ListEnds 3
-    ∷ refusing (0x80 ∷ 0x01 ∷ 0x8C ∷ []) 9 ListEnds 2
-    ∷ refusing firstNumbers 9 ListEnds 8
-    ∷ refusing (firstNumbers ++ replicate 511 0x01) 9 ListEnds 8
-    ∷ refusing beforeCount 9 ListEnds 520
-    ∷ refusing (beforeCount ++ 0x03 ∷ take 9 threeWords) 9 ListEnds 530
-    ∷ refusing (beforeCount ++ 0x03 ∷ take 13 threeWords) 9 ListEnds 530
+    refusing [] 12 ListEnds 0
+    ∷ refusing (take 3 firstNumbers) 12 ListEnds 3
+    ∷ refusing (0x80 ∷ 0x01 ∷ 0x8C ∷ []) 12 ListEnds 2
+    ∷ refusing firstNumbers 12 ListEnds 8
+    ∷ refusing (firstNumbers ++ replicate 511 0x01) 12 ListEnds 8
+    ∷ refusing beforeCount 12 ListEnds 520
+    ∷ refusing (beforeCount ++ 0x03 ∷ take 9 threeWords) 12 ListEnds 530
+    ∷ refusing (beforeCount ++ 0x03 ∷ take 13 threeWords) 12 ListEnds 530
     -- 8, at the number's first byte: modes in two bytes, n in two, the fifth byte of the first word, the last of the second
-    ∷ refusing (0x80 ∷ 0x01 ∷ 0x0C ∷ 0x83 ∷ 0x00 ∷ []) 9 BadNumber 3
-    ∷ refusing (beforeCount ++ 0x83 ∷ 0x00 ∷ threeWords) 9 BadNumber 520
-    ∷ refusing (beforeCount ++ 0x03 ∷ 0x88 ∷ 0x80 ∷ 0x88 ∷ 0x8D ∷ 0x10 ∷ []) 9 BadNumber 521
-    ∷ refusing (beforeCount ++ 0x03 ∷ take 5 threeWords ++ 0xA0 ∷ 0x80 ∷ 0x00 ∷ []) 9 BadNumber 526
+    ∷ refusing (0x80 ∷ 0x01 ∷ 0x0C ∷ 0x83 ∷ 0x00 ∷ []) 12 BadNumber 3
+    ∷ refusing (beforeCount ++ 0x83 ∷ 0x00 ∷ threeWords) 12 BadNumber 520
+    ∷ refusing (beforeCount ++ 0x03 ∷ 0x88 ∷ 0x80 ∷ 0x88 ∷ 0x8D ∷ 0x10 ∷ []) 12 BadNumber 521
+    ∷ refusing (beforeCount ++ 0x03 ∷ take 5 threeWords ++ 0xA0 ∷ 0x80 ∷ 0x00 ∷ []) 12 BadNumber 526
     -- 1, once W11 is read: VL 129; modes without SME
-    ∷ refusing (0x81 ∷ 0x01 ∷ 0x0C ∷ 0x03 ∷ 0x00 ∷ 0x00 ∷ 0x00 ∷ []) 9 ListEnds 7
-    ∷ refusing (0x81 ∷ 0x01 ∷ 0x0C ∷ 0x03 ∷ 0x00 ∷ 0x00 ∷ 0x00 ∷ 0x00 ∷ []) 9 BadSettings 0
-    ∷ refusing (0x80 ∷ 0x01 ∷ 0x03 ∷ 0x03 ∷ 0x00 ∷ 0x00 ∷ 0x00 ∷ 0x00 ∷ []) 9 BadSettings 0
+    ∷ refusing (0x81 ∷ 0x01 ∷ 0x0C ∷ 0x03 ∷ 0x00 ∷ 0x00 ∷ 0x00 ∷ []) 12 ListEnds 7
+    ∷ refusing (0x81 ∷ 0x01 ∷ 0x0C ∷ 0x03 ∷ 0x00 ∷ 0x00 ∷ 0x00 ∷ 0x00 ∷ []) 12 BadSettings 0
+    ∷ refusing (0x80 ∷ 0x01 ∷ 0x03 ∷ 0x03 ∷ 0x00 ∷ 0x00 ∷ 0x00 ∷ 0x00 ∷ []) 12 BadSettings 0
     -- 2: VL 256 has Z of 1,024 bytes
-    ∷ refusing (0x80 ∷ 0x02 ∷ 0x0C ∷ 0x03 ∷ 0x00 ∷ 0x00 ∷ 0x00 ∷ 0x00 ∷ []) 9 BadLength 0
+    ∷ refusing (0x80 ∷ 0x02 ∷ 0x0C ∷ 0x03 ∷ 0x00 ∷ 0x00 ∷ 0x00 ∷ 0x00 ∷ []) 12 BadLength 0
     -- 9 with no words behind it, and where the report is too short as well
-    ∷ refusing (beforeCount ++ 0x81 ∷ 0x08 ∷ []) 3075 TooManyWords 520
-    ∷ refusing (beforeCount ++ 0x81 ∷ 0x08 ∷ []) 9 TooManyWords 520
-    -- 2: the report of 9 numbers is too short for four words, and is tested before the first of them is read; that of 12 is not
-    ∷ refusing (beforeCount ++ 0x04 ∷ []) 9 BadLength 0
-    ∷ refusing (beforeCount ++ 0x04 ∷ []) 12 ListEnds 521
+    ∷ refusing (beforeCount ++ 0x81 ∷ 0x08 ∷ []) 4100 TooManyWords 520
+    ∷ refusing (beforeCount ++ 0x81 ∷ 0x08 ∷ []) 12 TooManyWords 520
+    -- 2: the reports of 12 and of 15 numbers are too short for four words, and are tested before the first of them is read; that of 16 is not
+    ∷ refusing (beforeCount ++ 0x04 ∷ []) 12 BadLength 0
+    ∷ refusing (beforeCount ++ 0x04 ∷ []) 15 BadLength 0
+    ∷ refusing (beforeCount ++ 0x04 ∷ []) 16 ListEnds 521
     -- 10
-    ∷ refusing (paperList ++ 0x00 ∷ []) 9 ExtraBytes 535
-    ∷ refusing (beforeCount ++ 0x02 ∷ threeWords) 9 ExtraBytes 530
+    ∷ refusing (paperList ++ 0x00 ∷ []) 12 ExtraBytes 535
+    ∷ refusing (beforeCount ++ 0x02 ∷ threeWords) 12 ExtraBytes 530
     ∷ []
 
 refusals-hold : map (λ (l : RefusedList). planOf (l .list) (lentWith (l .report))) refusedLists ≡ map (λ (l : RefusedList). refused (l .refusal) (l .place)) refusedLists
@@ -155,10 +156,10 @@ unfolding planOf settingsOf settledFrom zFrom wordsFrom numbersAt numberAt numer
 refusals-hold = refl
 
 -- 2, with the paper's list: Z and ZA of a byte too few
-short-z : planOf paperList (record { z = 511; za = 256; report = 9 }) ≡ refused BadLength 0
+short-z : planOf paperList (record { z = 511; za = 256; report = 12 }) ≡ refused BadLength 0
 unfolding planOf settingsOf settledFrom numbersAt numberAt numeral validSettings vectorBytes arrayBytes
 short-z = refl
 
-short-za : planOf paperList (record { z = 512; za = 255; report = 9 }) ≡ refused BadLength 0
+short-za : planOf paperList (record { z = 512; za = 255; report = 12 }) ≡ refused BadLength 0
 unfolding planOf settingsOf settledFrom numbersAt numberAt numeral validSettings vectorBytes arrayBytes
 short-za = refl

@@ -47,13 +47,13 @@ RunOfEnough = (k : ℕ) → longest < k → (list z za report : List ℕ) → ru
 
 -- ---- what holds of an accepted list
 
--- the settings are valid, the lengths of Z and ZA "exact"; the list has all Z bytes; n is not "above 1,024", and the report has "at least 3n numbers"
+-- the settings are valid, the lengths of Z and ZA "exact"; the list has all Z bytes; n is not "above 1,024", and the report has "at least" 4n "numbers"
 pub record FitsLent (lent : Lent) (a : Asked) : Type 0 where
   pub valid : validSettings (a .settings) ≡ true
   pub exact : rightLengths (a .settings) (lent .z) (lent .za) ≡ true
   pub z-bytes : length (a .z) ≡ lent .z
   pub few : length (a .words) ≤ mostWords
-  pub reported : 3 * length (a .words) ≤ lent .report
+  pub reported : 4 * length (a .words) ≤ lent .report
 
 -- what is asked for fits what was lent
 abbrev pub LengthsHold : Type 0
@@ -86,7 +86,7 @@ OneList = (list : List ℕ) (lent : Lent) (a : Asked) → planOf list lent ≡ f
 
 -- the longest list is there: at VL 512
 abbrev pub LongestReached : Type 0
-LongestReached = (a : Asked) × (planOf (listOf a) (record { z = 2048; za = 4096; report = 3 * mostWords }) ≡ found a) × (length (listOf a) ≡ longest)
+LongestReached = (a : Asked) × (planOf (listOf a) (record { z = 2048; za = 4096; report = 4 * mostWords }) ≡ found a) × (length (listOf a) ≡ longest)
 
 -- ---- what holds of a refused list
 

@@ -19,9 +19,9 @@ ledTo a za i = runOf (executePaper (a .settings)) (take i (a .words)) (a .z) za
 abbrev pub turnOf : Asked → List ℕ → ℕ → Outcome
 turnOf a za i = executePaper (a .settings) (getD (a .words) i 0) (ledTo a za i .z) (ledTo a za i .za)
 
--- "three numbers for each word (refusal or 0, toggled, written)": those of word i
-abbrev pub threeAt : List ℕ → ℕ → Report
-threeAt report i = (getD report (3 * i) 0, getD report (3 * i + 1) 0, getD report (3 * i + 2) 0)
+-- "four numbers for each word (refusal, rises, falls, written)" (document 02): those of word i
+abbrev pub fourAt : List ℕ → ℕ → Report
+fourAt report i = (getD report (4 * i) 0, getD report (4 * i + 1) 0, getD report (4 * i + 2) 0, getD report (4 * i + 3) 0)
 
 -- no other refusal is given to a word of a list
 abbrev pub ZeroThreeFour : ℕ → Type 0
@@ -30,22 +30,22 @@ ZeroThreeFour n = (n ≡ 0) ⊎ ((n ≡ 3) ⊎ (n ≡ 4))
 -- "A word refused with 3 or 4 changes no register and the run goes on"
 pub record InTurn (a : Asked) (za report : List ℕ) (i : ℕ) : Type 0 where
   -- the report of word i is that of executing it where the words before it have led
-  pub says : threeAt report i ≡ reportOf (turnOf a za i)
-  pub refusal : ZeroThreeFour (threeAt report i .0)
-  -- where it is refused, toggled and written are 0, and the next word finds the same Z and ZA
-  pub refused : threeAt report i .0 ≢ 0
-      → ((threeAt report i .1 ≡ 0) × (threeAt report i .2 ≡ 0)) × ((ledTo a za (suc i) .z ≡ ledTo a za i .z) × (ledTo a za (suc i) .za ≡ ledTo a za i .za))
+  pub says : fourAt report i ≡ reportOf (turnOf a za i)
+  pub refusal : ZeroThreeFour (fourAt report i .0)
+  -- where it is refused, its counts are 0, and the next word finds the same Z and ZA
+  pub refused : fourAt report i .0 ≢ 0
+      → ((fourAt report i .1 ≡ 0) × (fourAt report i .2 ≡ 0) × (fourAt report i .3 ≡ 0)) × ((ledTo a za (suc i) .z ≡ ledTo a za i .z) × (ledTo a za (suc i) .za ≡ ledTo a za i .za))
   -- refused or not, the next word finds what this one left
   pub goes-on : (ledTo a za (suc i) .z ≡ turnOf a za i .z) × (ledTo a za (suc i) .za ≡ turnOf a za i .za)
 
 -- ---- the whole list
 
--- "An accepted list leaves the final Z and ZA, and three numbers for each word .. in the report, whose rest stays". "ZA starts at zero"
+-- "An accepted list leaves the final Z and ZA", and the four numbers of each word "in the report, whose rest stays". "ZA starts at zero"
 pub record AllInTurn (a : Asked) (za report : List ℕ) (e : Ended) : Type 0 where
   pub count : e .words ≡ length (a .words)
   pub each : (i : ℕ) → i < length (a .words) → InTurn a (replicate (length za) 0) (e .report) i
   pub as-long : length (e .report) ≡ length report
-  pub rest : (i : ℕ) → 3 * length (a .words) ≤ i → getD (e .report) i 0 ≡ getD report i 0
+  pub rest : (i : ℕ) → 4 * length (a .words) ≤ i → getD (e .report) i 0 ≡ getD report i 0
   pub final-z : e .z ≡ ledTo a (replicate (length za) 0) (length (a .words)) .z
   pub final-za : e .za ≡ ledTo a (replicate (length za) 0) (length (a .words)) .za
 

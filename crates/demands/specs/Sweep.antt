@@ -57,13 +57,13 @@ NotItsOwnSource s w = (f : Fields) → decodePaper s w ≡ (0, f) → SourcesApa
 
 -- ---- the theorem
 
--- accepted, with the counts of a report
-abbrev pub acceptedWith : Report → Report
-acceptedWith r = (0, r .1, r .2)
+-- what a partner reports where its word reported r: it is accepted, and "a partner's rises are its word's falls, and the other way round" (document 02)
+abbrev pub ofPartner : Report → Report
+ofPartner r = (0, r .2, r .1, r .3)
 
--- Z and ZA are what they were at the start; the partners are accepted, and report the counts of their words
+-- Z and ZA are what they were at the start; the partners are accepted, and report the counts of their words so
 abbrev pub Closes : Settings → List ℕ → List ℕ → List ℕ → Type 0
-Closes s ws z za = back s ws z za ≡ record { z = z; za = za; reports = reverse (map acceptedWith (there s ws z za .reports)) }
+Closes s ws z za = back s ws z za ≡ record { z = z; za = za; reports = reverse (map ofPartner (there s ws z za .reports)) }
 
 -- Z and ZA hold bytes, as whatever is lent to `execute` does
 abbrev pub SweepCloses : Type 0

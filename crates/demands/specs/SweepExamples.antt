@@ -102,14 +102,14 @@ line bytes register given start after returned forward backward =
 
 abbrev pub sweeps : List Line
 sweeps =
-    line 2 3 closing 0x0101 0x0103 0x0101 ((0, 16, 128) ∷ (0, 12, 128) ∷ []) ((0, 12, 128) ∷ (0, 16, 128) ∷ [])
-    ∷ line 2 1 ownFirst 0x0101 0x0102 0x0100 ((0, 16, 128) ∷ []) ((0, 12, 128) ∷ [])
-    ∷ line 2 2 ownSecond 0x0101 0x0102 0x0100 ((0, 16, 128) ∷ []) ((0, 12, 128) ∷ [])
+    line 2 3 closing 0x0101 0x0103 0x0101 ((0, 8, 8, 128) ∷ (0, 8, 4, 128) ∷ []) ((0, 4, 8, 128) ∷ (0, 8, 8, 128) ∷ [])
+    ∷ line 2 1 ownFirst 0x0101 0x0102 0x0100 ((0, 8, 8, 128) ∷ []) ((0, 4, 8, 128) ∷ [])
+    ∷ line 2 2 ownSecond 0x0101 0x0102 0x0100 ((0, 8, 8, 128) ∷ []) ((0, 4, 8, 128) ∷ [])
     -- `partner` refuses it. By hand it does not come back either: see `flipped`
-    ∷ line 4 0 saturates 0x80008000 0x80000000 0x80000000 ((0, 4, 128) ∷ []) ((6, 0, 0) ∷ [])
+    ∷ line 4 0 saturates 0x80008000 0x80000000 0x80000000 ((0, 0, 4, 128) ∷ []) ((6, 0, 0, 0) ∷ [])
     -- nothing changes, but the partners are not accepted: `partner` refuses the one, and `execute` the partner of the other
-    ∷ line 2 0 unknown 0x0101 0x0101 0x0101 ((3, 0, 0) ∷ []) ((3, 0, 0) ∷ [])
-    ∷ line 2 0 wrongMode 0x0101 0x0101 0x0101 ((4, 0, 0) ∷ []) ((4, 0, 0) ∷ [])
+    ∷ line 2 0 unknown 0x0101 0x0101 0x0101 ((3, 0, 0, 0) ∷ []) ((3, 0, 0, 0) ∷ [])
+    ∷ line 2 0 wrongMode 0x0101 0x0101 0x0101 ((4, 0, 0, 0) ∷ []) ((4, 0, 0, 0) ∷ [])
     ∷ []
 
 -- the definitions answer each line as the table does

@@ -79,8 +79,8 @@ two-halves : (halves 0x2F72682000000000 ≡ (0, 0x2F726820)) × (halves (ofHalve
 two-halves = (refl, refl)
 
 -- the empty list: 7 at 0, and nothing is written
-empty-list : hostRun [] (1 ∷ 2 ∷ []) (3 ∷ []) (4 ∷ []) (5 ∷ 6 ∷ 7 ∷ [])
-    ≡ record { answer = (7, 0); z = 1 ∷ 2 ∷ []; za = 3 ∷ []; report = 4 ∷ []; totals = 5 ∷ 6 ∷ 7 ∷ [] }
+empty-list : hostRun [] (1 ∷ 2 ∷ []) (3 ∷ []) (4 ∷ []) (5 ∷ 6 ∷ 7 ∷ 8 ∷ [])
+    ≡ record { answer = (7, 0); z = 1 ∷ 2 ∷ []; za = 3 ∷ []; report = 4 ∷ []; totals = 5 ∷ 6 ∷ 7 ∷ 8 ∷ [] }
 unfolding hostRun runPaper planOf numbersAt numberAt numeral
 empty-list = refl
 

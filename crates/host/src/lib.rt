@@ -34,14 +34,14 @@ pub extern "C" fn callinglamp_partner(settings: &[u32; 7], word: u32) -> u64
     packing::partnered(callinglamp::partner(runlist::settings_of(settings), word))
 }
 
-// Executes one word on Z and ZA; `counts` takes toggled and written. Refusals 1, 2, 3, 4.
+// Executes one word on Z and ZA; `counts` takes rises, falls and written. Refusals 1, 2, 3, 4.
 #[no_mangle]
 pub extern "C" fn callinglamp_execute(
     settings: &[u32; 7],
     word: u32,
     z: &mut [u8],
     za: &mut [u8],
-    counts: &mut [u32; 2],
+    counts: &mut [u32; 3],
 ) -> u64
     ensures { λ r. ⌜ HostExecute (now (settings .entry)) word (now (z .entry)) (now (za .entry)) (now (counts .entry)) r (now (z .exit)) (now (za .exit)) (now (counts .exit)) ⌝ }
 {
@@ -59,7 +59,7 @@ pub extern "C" fn callinglamp_percent(toggled: u32, written: u32) -> u64
     callinglamp::percent(toggled, written)
 }
 
-// Runs a list on Z and ZA, and reports three numbers for each word; `totals` takes the count of words and their tally. Refusals 1, 2, 7 to
+// Runs a list on Z and ZA, and reports four numbers for each word; `totals` takes the count of words and their tally. Refusals 1, 2, 7 to
 // 10, with the place beside the number.
 #[no_mangle]
 pub extern "C" fn callinglamp_run(
@@ -67,7 +67,7 @@ pub extern "C" fn callinglamp_run(
     z: &mut [u8],
     za: &mut [u8],
     report: &mut [u32],
-    totals: &mut [u32; 3],
+    totals: &mut [u32; 4],
 ) -> u64
     ensures { λ r. ⌜ HostRun (now (list .entry)) (now (z .entry)) (now (za .entry)) (now (report .entry)) (now (totals .entry)) r (now (z .exit)) (now (za .exit)) (now (report .exit)) (now (totals .exit)) ⌝ }
 {
@@ -95,5 +95,5 @@ pub extern "C" fn callinglamp_read(settings: &[u32; 7], text: &[u8]) -> u64
 pub extern "C" fn callinglamp_version() -> u32
     ensures { λ r. ⌜ HostVersion r ⌝ }
 {
-    10200
+    20000
 }

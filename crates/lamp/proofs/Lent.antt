@@ -36,8 +36,8 @@ zeros k n h =
     ∙ take-at (noughts k) (noughts (n - k)) k (length-replicate k 0)
 
 pub as-printed : (list : List ℕ) (w : ℕ) → w ≡ registerBytes list → w ≤ 64
-    → linesOf list (take (32 * w) (replicate 2048 0)) (take (w * w) (replicate 4096 0)) (replicate 3072 0) ≡ printed list
+    → linesOf list (take (32 * w) (replicate 2048 0)) (take (w * w) (replicate 4096 0)) (replicate 4096 0) ≡ printed list
 unfolding printed
 as-printed list w e h =
-    ap₂ (λ (z za : List ℕ). linesOf list z za (replicate 3072 0)) (zeros (32 * w) 2048 (omega arith)) (zeros (w * w) 4096 (square w h))
-    ∙ ap (λ (n : ℕ). linesOf list (replicate (32 * n) 0) (replicate (n * n) 0) (replicate 3072 0)) e
+    ap₂ (λ (z za : List ℕ). linesOf list z za (replicate 4096 0)) (zeros (32 * w) 2048 (omega arith)) (zeros (w * w) 4096 (square w h))
+    ∙ ap (λ (n : ℕ). linesOf list (replicate (32 * n) 0) (replicate (n * n) 0) (replicate 4096 0)) e

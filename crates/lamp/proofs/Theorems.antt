@@ -39,7 +39,7 @@ same-lines k h list z za report =
 pub enough-read : EnoughRead
 unfolding printed registerBytes
 enough-read k h list =
-    ap (λ (n : ℕ). linesOf (take k list) (replicate (32 * n) 0) (replicate (n * n) 0) (replicate (3 * mostWords) 0))
+    ap (λ (n : ℕ). linesOf (take k list) (replicate (32 * n) 0) (replicate (n * n) 0) (replicate (4 * mostWords) 0))
     (ap registerOf (first-number k (omega arith) list))
     ∙ same-lines k h list _ _ _
 

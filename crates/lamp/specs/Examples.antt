@@ -14,7 +14,7 @@ use Rattle.machine.specs.Step.{stride, selected, firstVector, someBelow, writes
 use Rattle.machine.specs.Execute.{stepped, executePaper}
 use Rattle.machine.specs.Run.{runOf}
 use Rattle.runlist.specs.Plan.{wordsFrom, zFrom, settledFrom, settingsOf, planOf}
-use Rattle.runlist.specs.RunList.{tallied, threes, runPaper}
+use Rattle.runlist.specs.RunList.{tallied, fours, runPaper}
 use Rattle.pieces.specs.Pieces.{text, digits, decimalUpTo, decimal, hex8}
 use Rattle.lines.specs.Lines.{refusedLine, countsAfter, outcome, wordLine, wordLines, wordsLine, totalLine, ranLines}
 use Rattle.demands.specs.ListExamples.{paperList}
@@ -23,7 +23,7 @@ use Rattle.lamp.specs.Lamp.{wordsOf, textOf, linesOf, registerBytes, pri
 -- "It prints:"
 paper-printed : printed paperList
     ≡ text "words 3\n" ++ text "1 C1A20008 1024 1024 100\n" ++ text "2 0E228020 refused 3\n" ++ text "3 C1A20000 1024 1024 100\n" ++ text "total 2048 2048 100\n"
-unfolding printed registerBytes linesOf textOf wordsOf runPaper planOf settingsOf settledFrom zFrom wordsFrom numbersAt numberAt numeral runOf tallied threes
+unfolding printed registerBytes linesOf textOf wordsOf runPaper planOf settingsOf settledFrom zFrom wordsFrom numbersAt numberAt numeral runOf tallied fours
     executePaper stepped decodePaper decodeEnabled describe enables validSettings vectorBytes arrayBytes
     zaAfter newVector writesVector someBelow firstVector selected stride newBytes newElement renewed vectorAt vector elementAt lowBytes
     step laneStep accumulate product SInt Int low overBits overBytes

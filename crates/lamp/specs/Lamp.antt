@@ -1,5 +1,5 @@
 -- What the list program prints of a list (document 01, "The run list").
-use Prim.Native.Nat.{ℕ, _*_, _/_}
+use Prim.Native.Nat.{ℕ, _+_, _*_, _/_}
 use mathlib.Core.Path.{_≡_}
 use mathlib.Core.Bool.{cond}
 use mathlib.Core.List.{List, []}
@@ -18,10 +18,10 @@ unfoldable pub wordsOf : Found Asked → List ℕ
 wordsOf (found a) = a .words
 wordsOf (refused r p) = []
 
--- the text of an answer: one line for a refused list; else `words`, a line for each word, and `total`
+-- the text of an answer: one line for a refused list; else `words`, a line for each word, and `total`, with the rises and falls of all words as toggled
 unfoldable pub textOf : List ℕ → Ended → List ℕ
 textOf ws o =
-    cond (eqb (o .number) 0) (ranLines ws (o .report) (o .tally .toggled) (o .tally .written)) (refusedLine (o .number) (o .place))
+    cond (eqb (o .number) 0) (ranLines ws (o .report) (o .tally .rises + o .tally .falls) (o .tally .written)) (refusedLine (o .number) (o .place))
 
 -- the text of what `run` answers, where Z, ZA and the report are lent
 unfoldable pub linesOf : List ℕ → List ℕ → List ℕ → List ℕ → List ℕ
@@ -38,9 +38,9 @@ registerOf (Fault r p) = 0
 unfoldable pub registerBytes : List ℕ → ℕ
 registerBytes list = registerOf (numberAt list 0)
 
--- how long what it lends is: Z and ZA as the list asks for, and three numbers for each word that a list may have
+-- how long what it lends is: Z and ZA as the list asks for, and four numbers for each word that a list may have
 abbrev pub lentTo : List ℕ → Lent
-lentTo list = record { z = 32 * registerBytes list; za = registerBytes list * registerBytes list; report = 3 * mostWords }
+lentTo list = record { z = 32 * registerBytes list; za = registerBytes list * registerBytes list; report = 4 * mostWords }
 
 -- what is printed: zeros are lent
 unfoldable pub printed : List ℕ → List ℕ

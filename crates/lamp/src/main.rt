@@ -20,7 +20,7 @@ const MOST_Z: usize = 2048;
 
 const MOST_ZA: usize = 4096;
 
-const REPORT: usize = 3 * runlist::MOST_WORDS;
+const REPORT: usize = 4 * runlist::MOST_WORDS;
 
 // Room for the lines of as many words as a list may have.
 const TEXT: usize = 96 + 96 * runlist::MOST_WORDS;
@@ -94,7 +94,8 @@ fn put_answer(
             tally,
         } => {
             words_again(list, z.len(), za.len(), report.len(), words);
-            lines::put_ran(out, &words[..count], report, tally.toggled, tally.written)
+            let toggled = tally.rises + tally.falls;
+            lines::put_ran(out, &words[..count], report, toggled, tally.written)
         }
     }
 }

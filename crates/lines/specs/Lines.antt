@@ -1,5 +1,5 @@
 -- The lines that the list program prints, as lists of bytes (document 01, The run list).
-use Prim.Native.Nat.{ℕ, zero, suc, _+_, _*_}
+use Prim.Native.Nat.{ℕ, zero, suc, _+_, _*_, _^_, _<_}
 use mathlib.Core.Bool.{cond}
 use mathlib.Core.List.{List, [], _++_}
 use lib.Dec.{eqb}
@@ -25,10 +25,14 @@ outcome refusal toggled written =
 unfoldable pub wordLine : ℕ → ℕ → ℕ → ℕ → ℕ → List ℕ
 wordLine number word refusal toggled written = decimal number ++ text " " ++ hex8 word ++ outcome refusal toggled written
 
--- the line of word i, the first of which is word 0, with three numbers a word in the report
+-- toggled of word i, the first of which is word 0: its rises and its falls, which are the second and third of four numbers a word in the report
+abbrev pub toggledAt : List ℕ → ℕ → ℕ
+toggledAt report i = getD report (4 * i + 1) 0 + getD report (4 * i + 2) 0
+
+-- the line of word i
 abbrev pub lineOf : List ℕ → List ℕ → ℕ → List ℕ
 lineOf words report i =
-    wordLine (i + 1) (getD words i 0) (getD report (3 * i) 0) (getD report (3 * i + 1) 0) (getD report (3 * i + 2) 0)
+    wordLine (i + 1) (getD words i 0) (getD report (4 * i) 0) (toggledAt report i) (getD report (4 * i + 3) 0)
 
 -- the lines of the first n words
 unfoldable pub wordLines : List ℕ → List ℕ → ℕ → List ℕ
@@ -44,3 +48,9 @@ totalLine toggled written = countsAfter (text "total ") toggled written
 -- the lines of a list that ran
 unfoldable pub ranLines : List ℕ → List ℕ → ℕ → ℕ → List ℕ
 ranLines words report toggled written = wordsLine (length words) ++ wordLines words report (length words) ++ totalLine toggled written
+
+-- ---- only contracts use this
+
+-- toggled of each of the first n words has 32 bits
+abbrev pub ToggledFits : List ℕ → ℕ → Type 0
+ToggledFits report n = (i : ℕ) → i < n → toggledAt report i < 2 ^ 32

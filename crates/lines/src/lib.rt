@@ -4,7 +4,7 @@ ghost use mathlib.Core.List.{_++_};
 ghost use Prim.Native.Nat.{_+_, _*_, _≤_, _<_};
 ghost use lib.ListN.{length, take};
 ghost use Rattle.pieces.specs.Pieces.{text, decimal, hex8, Wrote};
-ghost use Rattle.lines.specs.Lines.{refusedLine, countsAfter, outcome, lineOf, wordLines, ranLines};
+ghost use Rattle.lines.specs.Lines.{refusedLine, countsAfter, outcome, lineOf, wordLines, ranLines, ToggledFits};
 
 // A number after a text.
 fn put_number(out: &mut [u8], at: usize, before: &[u8], n: u64) -> usize
@@ -64,24 +64,20 @@ fn put_outcome(out: &mut [u8], at: usize, refusal: u32, toggled: u32, written: u
 // The line of word i. The first is word 0, and its line begins with the number 1.
 fn put_line(out: &mut [u8], at: usize, words: &[u32], report: &[u32], i: usize) -> usize
     requires { ⌜ at + 96 ≤ length (now out) ⌝ }
-    requires { ⌜ (i < length (now words)) × (3 * length (now words) ≤ length (now report)) ⌝ }
+    requires { ⌜ (i < length (now words)) × (4 * length (now words) ≤ length (now report)) ⌝ }
+    requires { ⌜ ToggledFits (now report) (length (now words)) ⌝ }
     ensures { λ r. ⌜ Wrote (lineOf (now (words .entry)) (now (report .entry)) i) at (now (out .entry)) (now (out .exit)) r ⌝ }
     ensures { λ r. ⌜ r ≤ at + 96 ⌝ }
 {
     let middle = put_word(out, at, i + 1, words[i]);
-    let first = 3 * i;
-    put_outcome(
-        out,
-        middle,
-        report[first],
-        report[first + 1],
-        report[first + 2],
-    )
+    let first = 4 * i;
+    let toggled = report[first + 1] + report[first + 2];
+    put_outcome(out, middle, report[first], toggled, report[first + 3])
 }
 
 fn put_lines(out: &mut [u8], at: usize, words: &[u32], report: &[u32]) -> usize
     requires { ⌜ at + 96 * length (now words) ≤ length (now out) ⌝ }
-    requires { ⌜ 3 * length (now words) ≤ length (now report) ⌝ }
+    requires { ⌜ (4 * length (now words) ≤ length (now report)) × ToggledFits (now report) (length (now words)) ⌝ }
     ensures { λ r. ⌜ Wrote (wordLines (now (words .entry)) (now (report .entry)) (length (now (words .entry)))) at (now (out .entry)) (now (out .exit)) r ⌝ }
     ensures { λ r. ⌜ r ≤ at + 96 * length (now (words .entry)) ⌝ }
 {
@@ -108,7 +104,7 @@ pub fn put_refused(out: &mut [u8], number: u32, place: usize) -> usize
 // the first and the last line have at most 96 together.
 pub fn put_ran(out: &mut [u8], words: &[u32], report: &[u32], toggled: u32, written: u32) -> usize
     requires { ⌜ 96 + 96 * length (now words) ≤ length (now out) ⌝ }
-    requires { ⌜ 3 * length (now words) ≤ length (now report) ⌝ }
+    requires { ⌜ (4 * length (now words) ≤ length (now report)) × ToggledFits (now report) (length (now words)) ⌝ }
     ensures { λ r. ⌜ Wrote (ranLines (now (words .entry)) (now (report .entry)) toggled written) 0 (now (out .entry)) (now (out .exit)) r ⌝ }
     ensures { λ r. ⌜ (r ≤ length (now (out .exit))) × (r ≡ length (take r (now (out .exit)))) ⌝ }
 {

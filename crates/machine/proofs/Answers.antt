@@ -1,6 +1,6 @@
 -- What the promise of execute determines: the answer, and Z and ZA at the end. Assumes nothing.
 use Prim.Native.Nat.{ℕ}
-use mathlib.Core.Path.{_≡_, refl, sym, ap, ap₂, _∙_}
+use mathlib.Core.Path.{_≡_, refl, sym, ap, _∙_}
 use mathlib.Core.List.{List}
 use Rattle.settings.specs.declared.Settings.{Settings}
 use Rattle.settings.proofs.Refusals.{refusal-known, not-0}
@@ -13,11 +13,15 @@ use Rattle.machine.specs.declared.Executed.the-variants.{Done, Refused}
 number : Report → ℕ
 number r = r .0
 
+counts-same : {a b c d e f : ℕ} → a ≡ d → b ≡ e → c ≡ f
+    → _≡_ {A = Counts} (record { rises = a; falls = b; written = c }) (record { rises = d; falls = e; written = f })
+counts-same p q r = rw (p, q, r)
+
 -- an answer is known by its report
 pub executed-known : (r q : Executed) (z za z′ za′ : List ℕ) → reportOf (executedSays r z za) ≡ reportOf (executedSays q z′ za′) → r ≡ q
 unfolding number
 executed-known (Done c) (Done d) z za z′ za′ e =
-    ap Done (ap₂ {A = ℕ} {B = ℕ} {C = Counts} (λ t n. record { toggled = t; written = n }) (ap (λ (r : Report). r .1) e) (ap (λ (r : Report). r .2) e))
+    ap Done (counts-same (ap (λ (r : Report). r .1) e) (ap (λ (r : Report). r .2) e) (ap (λ (r : Report). r .3) e))
 executed-known (Done c) (Refused q) z za z′ za′ e = absurd (not-0 q (sym (ap number e)))
 executed-known (Refused r) (Done d) z za z′ za′ e = absurd (not-0 r (ap number e))
 executed-known (Refused r) (Refused q) z za z′ za′ e = ap Refused (refusal-known r q (ap number e))

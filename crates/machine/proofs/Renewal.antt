@@ -17,6 +17,7 @@ use Rattle.elements.specs.Files.{vectorAt}
 use Rattle.elements.proofs.Vectors.{within}
 use Rattle.elements.proofs.Files.{next, room}
 use Rattle.bits.specs.Replace.{Replaced}
+use Rattle.bits.specs.declared.Toggles.{Toggles}
 use Rattle.lanes.specs.Recipe.{Recipe}
 use Rattle.recipes.specs.Recipe.{recipeOf, newLength, perSource, OfC}
 use Rattle.lanes.specs.Element.{newBytes, Inside, RegistersThere}
@@ -72,7 +73,7 @@ module _ {f : Fields} {w : ℕ} {z : List ℕ} (p : Sources f w z) where
   register-there x h = omega (arith, next x w, room x 32 w z (p .z-long) h)
 
   -- n bytes of vector v of the file `a` become new: they are made of the registers alone
-  pub renewal : (i : ℕ) → i < perSource (f .family) → (n : ℕ) → newLength (f .family) w ≡ n → (v x y : ℕ) (a new a′ : List ℕ) (t : ℕ)
+  pub renewal : (i : ℕ) → i < perSource (f .family) → (n : ℕ) → newLength (f .family) w ≡ n → (v x y : ℕ) (a new a′ : List ℕ) (t : Toggles)
       → new ≡ newBytes (recipeOf (f .family) f i) n (drop (v * w) a) (drop (x * w) z) (drop (y * w) z)
       → Replaced (v * w) t new a a′ → Replaced (v * w) t (made f i n w v a x y z) a a′
   unfolding vectorAt
@@ -112,7 +113,7 @@ module _ {f : Fields} {w : ℕ} {z : List ℕ} (p : Sources f w z) where
       )
 
       -- what the loop built is put into its place
-      pub step-renewal : (z′ : List ℕ) (t : ℕ)
+      pub step-renewal : (z′ : List ℕ) (t : Toggles)
           → out ≡ newBytes (recipeOf (f .family) f 0) bytes (drop (f .destination * w) z) (drop (f .first * w) z) (drop (f .second * w) z)
           → Replaced (f .destination * w) t out z z′
           → RegisterRenewed f w t z z′

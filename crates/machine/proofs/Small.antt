@@ -4,7 +4,6 @@ use native.Mathlib.Omega.{arith}
 use mathlib.Core.Path.{_≡_, refl}
 use mathlib.Core.Logic.{_⊎_, inl, inr}
 use mathlib.Core.List.{List}
-use lib.Bits.{differ}
 use lib.Dec.{lit≤}
 use Rattle.settings.specs.Valid.{vectorBytes}
 use Rattle.settings.specs.declared.Settings.{Settings}
@@ -13,31 +12,31 @@ use Rattle.words.specs.Ranges.{Ranges, OfFamily}
 use Rattle.words.specs.declared.Family.{Family}
 use Rattle.words.specs.declared.Family.the-variants.{ByElement, Vector, Saturating, LongLong, Long}
 use Rattle.words.specs.declared.Fields.{Fields}
-use Rattle.bits.specs.Bits.{toggled}
-use Rattle.bits.proofs.Bits.{differ-once, bytes-le}
+use Rattle.bits.specs.Bits.{overBytes, rose, fell}
+use Rattle.bits.proofs.Bits.{Once, rose-once, fell-once, bytes-le}
 use Rattle.machine.specs.Execute.{Outcome, written, stepped, executePaper}
 use Rattle.machine.specs.Loop.{Ready}
 use Rattle.machine.proofs.Executing.{word-ranges, each-outcome}
 
--- at most each bit of Z and ZA toggled; VL·group·4 written, with the greatest VL and the greatest group
+-- at most each bit of Z and ZA rose, and at most each fell; VL·group·4 written, with the greatest VL and the greatest group
 abbrev pub Small : Outcome → Type 0
-Small o = (o .toggled ≤ 49152) × (o .written ≤ 8192)
+Small o = (o .rises ≤ 49152) × (o .falls ≤ 49152) × (o .written ≤ 8192)
 
 module _ (s : Settings) (f : Fields) (z za : List ℕ) (p : Ready s z za) where
   register : vectorBytes s ≤ 64
   register = vector-at-most s (p .valid)
 
   -- whatever the bytes become
-  toggled-small : (z′ za′ : List ℕ) → toggled z z′ + toggled za za′ ≤ 49152
-  toggled-small z′ za′ =
+  count-small : (t : ℕ → ℕ → ℕ) → Once t → (z′ za′ : List ℕ) → overBytes t z z′ + overBytes t za za′ ≤ 49152
+  count-small t once z′ za′ =
       omega (
         arith,
         register,
         array-at-most s (p .valid) _ refl,
         p .z-long,
         p .za-long,
-        bytes-le differ differ-once z z′,
-        bytes-le differ differ-once za za′,
+        bytes-le t once z z′,
+        bytes-le t once za za′,
       )
 
   most : s .vl ≤ 512
@@ -55,9 +54,9 @@ module _ (s : Settings) (f : Fields) (z za : List ℕ) (p : Ready s z za) where
   written-small LongLong e o = rw e (omega (arith, in-groups (o .0)))
   written-small Long e o = rw e (omega (arith, in-groups (o .0)))
 
-  step-small : Ranges f → Small (stepped s f z za)
+  pub step-small : Ranges f → Small (stepped s f z za)
   unfolding stepped
-  step-small g = (toggled-small _ _, written-small (f .family) refl (g .of-family))
+  step-small g = (count-small rose rose-once _ _, count-small fell fell-once _ _, written-small (f .family) refl (g .of-family))
 
 pub counts-small : (s : Settings) (w : ℕ) (z za : List ℕ) → Small (executePaper s w z za)
-counts-small s w z za = each-outcome s z za w Small (λ n h. (omega arith, omega arith)) (λ f p d m. step-small s f z za p (word-ranges s w f d))
+counts-small s w z za = each-outcome s z za w Small (λ n h. (omega arith, omega arith, omega arith)) (λ f p d m. step-small s f z za p (word-ranges s w f d))

@@ -13,8 +13,9 @@ use Rattle.words.specs.Ranges.{Ranges}
 use Rattle.words.specs.declared.Family.{Family}
 use Rattle.words.specs.declared.Family.the-variants.{ByElement, Vector, Saturating, LongLong, Long}
 use Rattle.words.specs.declared.Fields.{Fields}
-use Rattle.bits.specs.Bits.{toggled}
-use Rattle.bits.proofs.Bits.{toggled-same}
+use Rattle.bits.specs.Bits.{overBytes, rose, fell, rises, falls, toggles}
+use Rattle.bits.specs.declared.Toggles.{Toggles}
+use Rattle.bits.proofs.Bits.{Unmoved, rose-unmoved, fell-unmoved, bytes-same}
 use Rattle.recipes.specs.Recipe.{newLength, perSource}
 use Rattle.machine.specs.Step.{zAfter, zaAfter}
 use Rattle.machine.specs.Execute.{Outcome, written, stepped, Stepped}
@@ -40,7 +41,15 @@ which-file f = by (f .family) refl
 module _ (s : Settings) (f : Fields) (z za : List ℕ) where
   -- a step that leaves z′ and za′
   abbrev pub steppedTo : List ℕ → List ℕ → Outcome
-  steppedTo z′ za′ = record { number = 0; toggled = toggled z z′ + toggled za za′; written = written s f; z = z′; za = za′ }
+  steppedTo z′ za′ =
+      record {
+        number = 0;
+        rises = rises z z′ + rises za za′;
+        falls = falls z z′ + falls za za′;
+        written = written s f;
+        z = z′;
+        za = za′;
+      }
 
   abbrev pub steppedZ : Outcome
   steppedZ = steppedTo (zAfter s f z) za
@@ -91,7 +100,14 @@ module _ (s : Settings) (f : Fields) (z za : List ℕ) (p : Ready s z za) (g : R
         za-long = p .za-long;
       }
 
-  pub z-done : IntoZ f → (t : ℕ) (z′ : List ℕ)
+  -- the counts of a step that changes Z alone, or ZA alone
+  in-z : (t : ℕ → ℕ → ℕ) → Unmoved t → (z′ : List ℕ) → overBytes t z z′ + overBytes t za za ≡ overBytes t z z′
+  in-z t same z′ = ap (λ (n : ℕ). overBytes t z z′ + n) (bytes-same t same za) ∙ add-zero (overBytes t z z′)
+
+  in-za : (t : ℕ → ℕ → ℕ) → Unmoved t → (za′ : List ℕ) → overBytes t z z + overBytes t za za′ ≡ overBytes t za za′
+  in-za t same za′ = ap (λ (n : ℕ). n + overBytes t za za′) (bytes-same t same z) ∙ zero-add (overBytes t za za′)
+
+  pub z-done : IntoZ f → (t : Toggles) (z′ : List ℕ)
       → RegisterRenewed f w t z z′
       → Stepped s f t z za z′ za
   z-done i t z′ r =
@@ -101,28 +117,30 @@ module _ (s : Settings) (f : Fields) (z za : List ℕ) (p : Ready s z za) (g : R
       record {
         z-after = e ∙ sym (ap (λ (o : Outcome). o .z) q);
         za-after = sym (ap (λ (o : Outcome). o .za) q);
-        bits = r′ .bits ∙ ap (toggled z) e ∙ sym (ap (λ (o : Outcome). o .toggled) q ∙ ap (λ (n : ℕ). toggled z (zAfter s f z) + n) (toggled-same za) ∙ add-zero (toggled z (zAfter s f z)));
+        rose = ap (λ (b : Toggles). b .rises) (r′ .bits) ∙ ap (rises z) e ∙ sym (ap (λ (o : Outcome). o .rises) q ∙ in-z rose rose-unmoved (zAfter s f z));
+        fell = ap (λ (b : Toggles). b .falls) (r′ .bits) ∙ ap (falls z) e ∙ sym (ap (λ (o : Outcome). o .falls) q ∙ in-z fell fell-unmoved (zAfter s f z));
       }
 
-  pub za-done : IntoZa f → (t : ℕ) (za′ : List ℕ) → za′ ≡ zaAfter s f z za → t ≡ toggled za za′ → Stepped s f t z za z za′
+  pub za-done : IntoZa f → (t : Toggles) (za′ : List ℕ) → za′ ≡ zaAfter s f z za → t ≡ toggles za za′ → Stepped s f t z za z za′
   za-done i t za′ e b =
       let q = stepped-za s f z za i in
       record {
         z-after = sym (ap (λ (o : Outcome). o .z) q);
         za-after = e ∙ sym (ap (λ (o : Outcome). o .za) q);
-        bits = b ∙ ap (toggled za) e ∙ sym (ap (λ (o : Outcome). o .toggled) q ∙ ap (λ (n : ℕ). n + toggled za (zaAfter s f z za)) (toggled-same z) ∙ zero-add (toggled za (zaAfter s f z za)));
+        rose = ap (λ (b : Toggles). b .rises) b ∙ ap (rises za) e ∙ sym (ap (λ (o : Outcome). o .rises) q ∙ in-za rose rose-unmoved (zaAfter s f z za));
+        fell = ap (λ (b : Toggles). b .falls) b ∙ ap (falls za) e ∙ sym (ap (λ (o : Outcome). o .falls) q ∙ in-za fell fell-unmoved (zaAfter s f z za));
       }
 
 -- ---- the outcome, from the files and the counts
 
-pub outcome-is : (s : Settings) (f : Fields) (t n : ℕ) (z za z′ za′ : List ℕ) → Stepped s f t z za z′ za′ → n ≡ written s f
-    → _≡_ {A = Outcome} (record { number = 0; toggled = t; written = n; z = z′; za = za′ }) (stepped s f z za)
+pub outcome-is : (s : Settings) (f : Fields) (t : Toggles) (n : ℕ) (z za z′ za′ : List ℕ) → Stepped s f t z za z′ za′ → n ≡ written s f
+    → _≡_ {A = Outcome} (record { number = 0; rises = t .rises; falls = t .falls; written = n; z = z′; za = za′ }) (stepped s f z za)
 unfolding stepped
-outcome-is s f t n z za z′ za′ p en = same-outcome refl (p .bits) en (p .z-after) (p .za-after)
+outcome-is s f t n z za z′ za′ p en = same-outcome refl (p .rose) (p .fell) en (p .z-after) (p .za-after)
   where
-    same-outcome : {o : Outcome} {k t n : ℕ} {z za : List ℕ} → k ≡ o .number → t ≡ o .toggled → n ≡ o .written → z ≡ o .z → za ≡ o .za
-        → _≡_ {A = Outcome} (record { number = k; toggled = t; written = n; z = z; za = za }) o
-    same-outcome {o} ek et en ez ea = rw (ek, et, en, ez, ea)
+    same-outcome : {o : Outcome} {k r d n : ℕ} {z za : List ℕ} → k ≡ o .number → r ≡ o .rises → d ≡ o .falls → n ≡ o .written → z ≡ o .z → za ≡ o .za
+        → _≡_ {A = Outcome} (record { number = k; rises = r; falls = d; written = n; z = z; za = za }) o
+    same-outcome {o} ek er ed en ez ea = rw (ek, er, ed, en, ez, ea)
 
 -- a register has 2,048 bits at most
 pub bits-small : (s : Settings) (z za : List ℕ) → Ready s z za → s .vl ≤ 2048

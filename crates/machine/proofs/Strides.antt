@@ -17,6 +17,7 @@ use Rattle.words.specs.declared.Fields.{Fields}
 use Rattle.words.proofs.Ranges.{in-family}
 use Rattle.lanes.proofs.Widths.{lane-range, width-range}
 use Rattle.bits.specs.Replace.{Replaced}
+use Rattle.bits.specs.declared.Toggles.{Toggles}
 use Rattle.chunks.specs.Chunk.{evenBytes, Reach, OfArray}
 use Rattle.chunks.proofs.Parts.{array-widths}
 use Rattle.chunks.proofs.Strides.{even-bytes}
@@ -82,16 +83,16 @@ module _ {f : Fields} {w : ℕ} {z : List ℕ} (p : Sources f w z) where
   Same y by family = New y by ≡ newBytes (recipeOf family f 0) (newLength family w) (drop At z) (drop (f .first * w) z) (drop (f .second * w) z)
 
   v-renewal : (family : Family) → f .family ≡ family → (y by : ℕ) → Same y by family
-      → (z′ : List ℕ) (t : ℕ) → Replaced At t (New y by) z z′ → RegisterRenewed f w t z z′
+      → (z′ : List ℕ) (t : Toggles) → Replaced At t (New y by) z z′ → RegisterRenewed f w t z z′
   v-renewal family e y by same z′ t =
       renewal p 0 (first-source p) (newLength (f .family) w) refl (f .destination) (f .first) (f .second) z _ z′ t (subst (Same y by) (sym e) same)
 
-  pub by-element : f .family ≡ ByElement → (z′ : List ℕ) (t : ℕ) → Replaced At t (New Index 0) z z′ → RegisterRenewed f w t z z′
+  pub by-element : f .family ≡ ByElement → (z′ : List ℕ) (t : Toggles) → Replaced At t (New Index 0) z z′ → RegisterRenewed f w t z z′
   by-element e =
       v-renewal ByElement e Index 0
       (even-bytes (f .lane) (2 * f .lane) (f .unsigned) (f .subtract) 1 _ 0 (f .index) z At z (f .first * w) (f .second * w) _ Index 16 (at-half (f .first)) refl)
 
-  pub by-pairs : f .family ≡ Vector → (z′ : List ℕ) (t : ℕ) → Replaced At t (New (Half (f .second)) 1) z z′ → RegisterRenewed f w t z z′
+  pub by-pairs : f .family ≡ Vector → (z′ : List ℕ) (t : Toggles) → Replaced At t (New (Half (f .second)) 1) z z′ → RegisterRenewed f w t z z′
   by-pairs e =
       v-renewal Vector e (Half (f .second)) 1
       (even-bytes (f .lane) (2 * f .lane) (f .unsigned) (f .subtract) 1 _ 1 _ z At z (f .first * w) (f .second * w) _ _ 16 (at-half (f .first)) (at-half (f .second)))
@@ -153,7 +154,7 @@ module _ {f : Fields} {w : ℕ} {z za : List ℕ} (p : Places f w z za) (k : ℕ
         omega (arith, p .sources .width .most),
       )
 
-      pub array-renewal : (za′ : List ℕ) (t : ℕ)
+      pub array-renewal : (za′ : List ℕ) (t : Toggles)
           → Replaced (v * w) t (evenBytes (f .lane) (k * f .lane) (f .unsigned) (f .subtract) za (v * w) z (From (f .first)) (k * f .lane / f .lane) (From (f .second)) (k * f .lane / f .lane) w) za za′
           → Replaced (v * w) t (made f i w w v za (f .first + r) (f .second + r) z) za za′
       array-renewal za′ t =

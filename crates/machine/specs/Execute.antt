@@ -12,27 +12,29 @@ use Rattle.words.specs.Decode.{decodePaper}
 use Rattle.words.specs.declared.Family.{Family}
 use Rattle.words.specs.declared.Family.the-variants.{ByElement, Vector, Saturating, LongLong, Long}
 use Rattle.words.specs.declared.Fields.{Fields}
-use Rattle.bits.specs.Bits.{toggled}
+use Rattle.bits.specs.Bits.{rises, falls}
+use Rattle.bits.specs.declared.Toggles.{Toggles}
 use Rattle.machine.specs.Modes.{permits}
 use Rattle.machine.specs.Step.{zAfter, zaAfter}
 use Rattle.machine.specs.declared.Executed.{Executed}
 use Rattle.machine.specs.declared.Executed.the-variants.{Done, Refused}
 
--- the answer's number, its two counts, and the registers at the end
+-- the answer's number, its three counts, and the registers at the end
 pub record Outcome : Type 0 where
   pub number : ℕ
-  pub toggled : ℕ
+  pub rises : ℕ
+  pub falls : ℕ
   pub written : ℕ
   pub z : List ℕ
   pub za : List ℕ
 
 -- a refusal gives its number and zeros, and every lent buffer keeps its contents
 abbrev pub refusedWith : ℕ → List ℕ → List ℕ → Outcome
-refusedWith n z za = record { number = n; toggled = 0; written = 0; z = z; za = za }
+refusedWith n z za = record { number = n; rises = 0; falls = 0; written = 0; z = z; za = za }
 
 -- what an answer says, with Z and ZA as the call left them
 abbrev pub executedSays : Executed → List ℕ → List ℕ → Outcome
-executedSays (Done c) z za = record { number = 0; toggled = c .toggled; written = c .written; z = z; za = za }
+executedSays (Done c) z za = record { number = 0; rises = c .rises; falls = c .falls; written = c .written; z = z; za = za }
 executedSays (Refused r) z za = refusedWith (refusalNumber r) z za
 
 -- written is 128 in A and B, VL in C, VL·group·4 in D, VL·group·2 in E
@@ -47,12 +49,19 @@ writesZa Saturating = false
 writesZa LongLong = true
 writesZa Long = true
 
--- the step of a word: toggled is the number of bits that differ in Z and ZA before and after
+-- the step of a word: rises is the number of bits of Z and ZA that were 0 and are 1, and falls of those that were 1 and are 0
 unfoldable pub stepped : Settings → Fields → List ℕ → List ℕ → Outcome
 stepped s f z za =
     let z′ : List ℕ = cond (writesZa (f .family)) z (zAfter s f z) in
     let za′ : List ℕ = cond (writesZa (f .family)) (zaAfter s f z za) za in
-    record { number = 0; toggled = toggled z z′ + toggled za za′; written = written s f; z = z′; za = za′ }
+    record {
+      number = 0;
+      rises = rises z z′ + rises za za′;
+      falls = falls z z′ + falls za za′;
+      written = written s f;
+      z = z′;
+      za = za′;
+    }
 
 -- Z and ZA lengths are exact
 abbrev pub rightLengths : Settings → ℕ → ℕ → Bool
@@ -74,8 +83,9 @@ ExecutePromise s w z za r z′ za′ = executedSays r z′ za′ ≡ executePape
 
 -- ---- only contracts use this
 
--- what the step has done to the files, and the bits that differ
-pub record Stepped (s : Settings) (f : Fields) (t : ℕ) (z za z′ za′ : List ℕ) : Type 0 where
+-- what the step has done to the files, and the bits that rose and fell
+pub record Stepped (s : Settings) (f : Fields) (t : Toggles) (z za z′ za′ : List ℕ) : Type 0 where
   pub z-after : z′ ≡ stepped s f z za .z
   pub za-after : za′ ≡ stepped s f z za .za
-  pub bits : t ≡ stepped s f z za .toggled
+  pub rose : t .rises ≡ stepped s f z za .rises
+  pub fell : t .falls ≡ stepped s f z za .falls

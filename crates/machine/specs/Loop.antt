@@ -13,6 +13,7 @@ use Rattle.words.specs.declared.Family.the-variants.{ByElement, Vector, LongLon
 use Rattle.words.specs.declared.Fields.{Fields}
 use Rattle.elements.specs.Files.{vectorAt}
 use Rattle.bits.specs.Replace.{Replaced}
+use Rattle.bits.specs.declared.Toggles.{Toggles}
 use Rattle.recipes.specs.Recipe.{recipeOf, newLength}
 use Rattle.lanes.specs.Element.{newBytes}
 
@@ -26,8 +27,8 @@ pub record Grid (w group stride k first : ℕ) : Type 0 where
 abbrev pub made : Fields → ℕ → ℕ → ℕ → ℕ → List ℕ → ℕ → ℕ → List ℕ → List ℕ
 made f i n w v a x y z = newBytes (recipeOf (f .family) f i) n (vectorAt w v a) (vectorAt w x z) (vectorAt w y z)
 
--- the destination of a word of A, B or C became new, and t bits changed
-abbrev pub RegisterRenewed : Fields → ℕ → ℕ → List ℕ → List ℕ → Type 0
+-- the destination of a word of A, B or C became new, and t are the bits that rose and fell
+abbrev pub RegisterRenewed : Fields → ℕ → Toggles → List ℕ → List ℕ → Type 0
 RegisterRenewed f w t z z′ = Replaced (f .destination * w) t (made f 0 (newLength (f .family) w) w (f .destination) z (f .first) (f .second) z) z z′
 
 -- the q-th vector that a word of ZA writes: r is q / k and i is q % k

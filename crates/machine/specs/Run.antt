@@ -4,16 +4,16 @@ use mathlib.Core.List.{List, [], _∷_}
 use Rattle.machine.specs.Execute.{Outcome}
 use Rattle.machine.specs.declared.Reported.{Reported}
 
--- three numbers for each word: refusal or 0, toggled, written
+-- document 02: "four numbers for each word (refusal, rises, falls, written)", where a word that is not refused has 0 for the refusal
 abbrev pub Report : Type 0
-Report = ℕ × ℕ × ℕ
+Report = ℕ × ℕ × ℕ × ℕ
 
 abbrev pub reportOf : Outcome → Report
-reportOf o = (o .number, o .toggled, o .written)
+reportOf o = (o .number, o .rises, o .falls, o .written)
 
 -- the same numbers as the code answers them
-abbrev pub threeOf : Reported → Report
-threeOf r = (r .refusal, r .toggled, r .written)
+abbrev pub fourOf : Reported → Report
+fourOf r = (r .refusal, r .rises, r .falls, r .written)
 
 -- what a run leaves: Z, ZA, and a report for each word
 pub record Run : Type 0 where

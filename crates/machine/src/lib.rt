@@ -5,19 +5,20 @@ ghost use mathlib.Core.List.{[]};
 ghost use Prim.Native.Nat.{_+_, _*_, _/_, _%_, _≤_, _<_};
 ghost use Rattle.settings.specs.Valid.{validSettings, vectorBytes, arrayBytes};
 ghost use Rattle.elements.specs.Files.{replaced};
-ghost use Rattle.bits.specs.Bits.{toggled};
+ghost use Rattle.bits.specs.Bits.{toggles};
 ghost use Rattle.bits.specs.Replace.{Replaced};
 ghost use Rattle.recipes.specs.Recipe.{perSource};
 ghost use Rattle.machine.specs.Modes.{permits};
 ghost use Rattle.machine.specs.Step.{zaAfter};
 ghost use Rattle.machine.specs.Loop.{made, RegisterRenewed, Grid, place, becomes, IntoV, Sources, Places, Ready};
 ghost use Rattle.machine.specs.Execute.{executedSays, written, stepped, Stepped, rightLengths, ExecutePromise};
-ghost use Rattle.machine.specs.Run.{reportOf, threeOf};
+ghost use Rattle.machine.specs.Run.{reportOf, fourOf};
 ghost use Rattle.machine.specs.declared.Executed.the-variants.{Done};
 ghost use Rattle.words.specs.declared.Family.the-variants.{Saturating};
 ghost use Rattle.words.specs.Ranges.{Ranges};
 ghost use Rattle.words.specs.Decode.{decodePaper};
 ghost use Rattle.words.specs.Kinds.{fieldsAs};
+use bits::Toggles;
 use settings::Features;
 use settings::Modes;
 use settings::Refusal;
@@ -26,9 +27,10 @@ use words::Family;
 use words::Fields;
 use words::Kind;
 
-// The bits that a step changed, and those that it wrote.
+// The bits that a step changed, which rose or fell, and those that it wrote.
 pub struct Counts {
-    pub toggled: u32,
+    pub rises: u32,
+    pub falls: u32,
     pub written: u32,
 }
 
@@ -38,16 +40,17 @@ pub enum Executed {
     Refused(Refusal),
 }
 
-// The three numbers of a word in the report: a refusal's number or 0, and the counts.
+// The four numbers of a word in the report: a refusal's number or 0, and the counts.
 pub struct Reported {
     pub refusal: u32,
-    pub toggled: u32,
+    pub rises: u32,
+    pub falls: u32,
     pub written: u32,
 }
 
 // A, B: the low 16 bytes of the destination become new; registers have w bytes. In A each element takes the one lane at the index of the second
-// source, and in B its own. Answers how many bits changed.
-fn step_v(fields: Fields, w: usize, z: &mut [u8]) -> u32
+// source, and in B its own. Answers how many bits rose and fell.
+fn step_v(fields: Fields, w: usize, z: &mut [u8]) -> Toggles
     requires { ⌜ Sources fields w (now z) ⌝ }
     requires { ⌜ IntoV fields ⌝ }
     ensures { λ t. ⌜ RegisterRenewed fields w t (now (z .entry)) (now (z .exit)) ⌝ }
@@ -69,8 +72,8 @@ fn step_v(fields: Fields, w: usize, z: &mut [u8]) -> u32
     }
 }
 
-// C: the destination becomes new. It is built aside, in room for the longest register, since it may be a source. Answers how many bits changed.
-fn step_saturating(fields: Fields, w: usize, z: &mut [u8]) -> u32
+// C: the destination becomes new. It is built aside, in room for the longest register, since it may be a source. Answers how many bits rose and fell.
+fn step_saturating(fields: Fields, w: usize, z: &mut [u8]) -> Toggles
     requires { ⌜ Sources fields w (now z) ⌝ }
     requires { ⌜ (fields .family ≡ Saturating) × (w ≤ 64) ⌝ }
     ensures { λ t. ⌜ RegisterRenewed fields w t (now (z .entry)) (now (z .exit)) ⌝ }
@@ -84,7 +87,7 @@ fn step_saturating(fields: Fields, w: usize, z: &mut [u8]) -> u32
     bits::replace(z, at, out)
 }
 
-// D, E, with k vectors for a source register: vector v of ZA, which is first + r·stride + i, becomes new. Answers how many bits changed.
+// D, E, with k vectors for a source register: vector v of ZA, which is first + r·stride + i, becomes new. Answers how many bits rose and fell.
 fn step_vector(
     fields: Fields,
     w: usize,
@@ -94,7 +97,7 @@ fn step_vector(
     i: usize,
     z: &[u8],
     za: &mut [u8],
-) -> u32
+) -> Toggles
     requires { ⌜ Places fields w (now z) (now za) ⌝ }
     requires { ⌜ k ≡ perSource (fields .family) ⌝ }
     requires { ⌜ (v < w) × (r < fields .group) × (i < k) ⌝ }
@@ -135,7 +138,7 @@ fn remainder(q: usize, k: usize) -> usize
     q % 2
 }
 
-// D, E: the vectors first + r·stride + i of ZA become new, for r below the group and i below k. Answers how many bits changed.
+// D, E: the vectors first + r·stride + i of ZA become new, for r below the group and i below k. Answers how many bits rose and fell.
 fn step_vectors(
     fields: Fields,
     w: usize,
@@ -144,28 +147,34 @@ fn step_vectors(
     k: usize,
     z: &[u8],
     za: &mut [u8],
-) -> u32
+) -> Toggles
     requires { ⌜ Places fields w (now z) (now za) ⌝ }
     requires { ⌜ Grid w (fields .group) stride k first × (k ≡ perSource (fields .family)) ⌝ }
-    ensures { λ t. ⌜ (now (za .exit) ≡ replaced (place first stride k) (becomes fields w first stride k (now (z .entry)) (now (za .entry))) w (fields .group * k) (now (za .entry))) × (t ≡ toggled (now (za .entry)) (now (za .exit))) ⌝ }
+    ensures { λ t. ⌜ (now (za .exit) ≡ replaced (place first stride k) (becomes fields w first stride k (now (z .entry)) (now (za .entry))) w (fields .group * k) (now (za .entry))) × (t ≡ toggles (now (za .entry)) (now (za .exit))) ⌝ }
 {
     let count = fields.group as usize * k;
-    let mut t: u32 = 0;
+    let mut rises: u64 = 0;
+    let mut falls: u64 = 0;
     let mut q: usize = 0;
     while q < count {
         let r = quotient(q, k);
         let i = remainder(q, k);
-        t += step_vector(fields, w, k, first + r * stride + i, r, i, z, za);
+        let toggles = step_vector(fields, w, k, first + r * stride + i, r, i, z, za);
+        rises += toggles.rises;
+        falls += toggles.falls;
         q += 1;
     }
-    t
+    Toggles {
+        rises: rises,
+        falls: falls,
+    }
 }
 
-// D, E, with k vectors for a source register: ZA after the step. Answers how many bits changed.
-fn step_array(settings: Settings, fields: Fields, k: usize, z: &[u8], za: &mut [u8]) -> u32
+// D, E, with k vectors for a source register: ZA after the step. Answers how many bits rose and fell.
+fn step_array(settings: Settings, fields: Fields, k: usize, z: &[u8], za: &mut [u8]) -> Toggles
     requires { ⌜ Places fields (arrayBytes settings) (now z) (now za) ⌝ }
     requires { ⌜ k ≡ perSource (fields .family) ⌝ }
-    ensures { λ t. ⌜ (now (za .exit) ≡ zaAfter settings fields (now (z .entry)) (now (za .entry))) × (t ≡ toggled (now (za .entry)) (now (za .exit))) ⌝ }
+    ensures { λ t. ⌜ (now (za .exit) ≡ zaAfter settings fields (now (z .entry)) (now (za .entry))) × (t ≡ toggles (now (za .entry)) (now (za .exit))) ⌝ }
 {
     let w = settings.array_bytes() as usize;
     let stride = quotient(w, fields.group as usize);
@@ -226,8 +235,8 @@ fn per_source(family: Family) -> usize
     }
 }
 
-// The registers after the step. Answers how many bits changed.
-fn step_files(settings: Settings, fields: Fields, w: usize, z: &mut [u8], za: &mut [u8]) -> u32
+// The registers after the step. Answers how many bits rose and fell.
+fn step_files(settings: Settings, fields: Fields, w: usize, z: &mut [u8], za: &mut [u8]) -> Toggles
     requires { ⌜ Ready settings (now z) (now za) ⌝ }
     requires { ⌜ Ranges fields ⌝ }
     requires { ⌜ w ≡ vectorBytes settings ⌝ }
@@ -249,10 +258,13 @@ fn step(settings: Settings, fields: Fields, z: &mut [u8], za: &mut [u8]) -> Coun
     ensures { λ c. ⌜ executedSays (Done c) (now (z .exit)) (now (za .exit)) ≡ stepped settings fields (now (z .entry)) (now (za .entry)) ⌝ }
 {
     let w = settings.vector_bytes() as usize;
-    let toggled = step_files(settings, fields, w, z, za);
+    let toggles = step_files(settings, fields, w, z, za);
     let written = written_bits(settings, fields);
+    let rises = toggles.rises as u32;
+    let falls = toggles.falls as u32;
     Counts {
-        toggled: toggled,
+        rises: rises,
+        falls: falls,
         written: written,
     }
 }
@@ -299,17 +311,19 @@ pub fn execute(settings: Settings, word: u32, z: &mut [u8], za: &mut [u8]) -> Ex
 
 // What a call answered, for the report.
 pub fn report_of(executed: Executed) -> Reported
-    ensures { λ r. ⌜ threeOf r ≡ reportOf (executedSays executed [] []) ⌝ }
+    ensures { λ r. ⌜ fourOf r ≡ reportOf (executedSays executed [] []) ⌝ }
 {
     match executed {
         Executed::Done(counts) => Reported {
             refusal: 0,
-            toggled: counts.toggled,
+            rises: counts.rises,
+            falls: counts.falls,
             written: counts.written,
         },
         Executed::Refused(refusal) => Reported {
             refusal: settings::refusal_number(refusal),
-            toggled: 0,
+            rises: 0,
+            falls: 0,
             written: 0,
         },
     }

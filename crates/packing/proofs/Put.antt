@@ -58,7 +58,7 @@ module _ (a : Executed) (counts : List ℕ) where
   executed-refused x r e h z za =
       rw (e, tests-not-0 x) (ap (λ (p : ℕ × ℕ). record { answer = p; z = z; za = za; counts = counts }) h)
 
-  pub executed-done : (c : Counts) → a ≡ executed.Done c → ExecutedPut a counts 0 (c .toggled ∷ c .written ∷ [])
+  pub executed-done : (c : Counts) → a ≡ executed.Done c → ExecutedPut a counts 0 (c .rises ∷ c .falls ∷ c .written ∷ [])
   executed-done c e z za = rw e
 
 -- ---- run
@@ -68,5 +68,5 @@ module _ (a : RunAnswer) (totals : List ℕ) where
   ran-refused x p r e h z za report =
       rw (e, tests-not-0 x) (ap (λ (q : ℕ × ℕ). record { answer = q; z = z; za = za; report = report; totals = totals }) h)
 
-  pub ran-done : (n : ℕ) (t : Tally) → a ≡ answer.Ran n t → RanPut a totals 0 (n ∷ t .toggled ∷ t .written ∷ [])
+  pub ran-done : (n : ℕ) (t : Tally) → a ≡ answer.Ran n t → RanPut a totals 0 (n ∷ t .rises ∷ t .falls ∷ t .written ∷ [])
   ran-done n t e z za report = rw e

@@ -126,7 +126,7 @@ pub record HostExecuted : Type 0 where
 
 abbrev pub executedInto : Outcome → List ℕ → HostExecuted
 executedInto o counts =
-    record { answer = (o .number, 0); z = o .z; za = o .za; counts = cond (eqb (o .number) 0) (o .toggled ∷ o .written ∷ []) counts }
+    record { answer = (o .number, 0); z = o .z; za = o .za; counts = cond (eqb (o .number) 0) (o .rises ∷ o .falls ∷ o .written ∷ []) counts }
 
 pub record HostRan : Type 0 where
   pub answer : ℕ × ℕ
@@ -143,7 +143,7 @@ ranInto e totals =
       z = e .z;
       za = e .za;
       report = e .report;
-      totals = cond (eqb (e .number) 0) (e .words ∷ e .tally .toggled ∷ e .tally .written ∷ []) totals;
+      totals = cond (eqb (e .number) 0) (e .words ∷ e .tally .rises ∷ e .tally .falls ∷ e .tally .written ∷ []) totals;
     }
 
 -- ---- only contracts use these

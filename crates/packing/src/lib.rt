@@ -181,26 +181,26 @@ pub fn partnered(answer: Partnered) -> u64
     }
 }
 
-pub fn executed(answer: Executed, counts: &mut [u32; 2]) -> u64
+pub fn executed(answer: Executed, counts: &mut [u32; 3]) -> u64
     ensures { λ r. ⌜ ExecutedPut answer (now (counts .entry)) r (now (counts .exit)) ⌝ }
 {
     match answer {
         Executed::Refused(refusal) => refused(refusal, 0),
         Executed::Done(done) => {
-            *counts = [done.toggled, done.written];
+            *counts = [done.rises, done.falls, done.written];
             0
         }
     }
 }
 
-pub fn ran(answer: RunAnswer, totals: &mut [u32; 3]) -> u64
+pub fn ran(answer: RunAnswer, totals: &mut [u32; 4]) -> u64
     requires { ⌜ FitsHalf answer ⌝ }
     ensures { λ r. ⌜ RanPut answer (now (totals .entry)) r (now (totals .exit)) ⌝ }
 {
     match answer {
         RunAnswer::Refused { refusal, place } => refused(refusal, place as u32),
         RunAnswer::Ran { words, tally } => {
-            *totals = [words as u32, tally.toggled, tally.written];
+            *totals = [words as u32, tally.rises, tally.falls, tally.written];
             0
         }
     }

@@ -1,5 +1,5 @@
 -- Document 01, "Lines to try on the bench": the rows marked P and row 14, as one table, and one statement: each answer is what the definitions give.
-use Prim.Native.Nat.{ℕ, zero, suc, _/_}
+use Prim.Native.Nat.{ℕ, zero, suc, _+_, _/_}
 use Prim.Native.String.{String}
 use mathlib.Core.Path.{_≡_, refl}
 use mathlib.Core.Bool.{true, false, cond}
@@ -68,7 +68,7 @@ rowFields w features = decodePaper (bench features) w .1
 -- register 0 has eight lanes of 16 bits
 abbrev pub lanesAnswer : Outcome → BenchAnswer
 lanesAnswer o =
-    lanes (map (element 2 (o .z)) (0 ∷ 1 ∷ 2 ∷ 3 ∷ 4 ∷ 5 ∷ 6 ∷ 7 ∷ [])) (o .toggled) (o .written) (percentOf (o .toggled) (o .written))
+    lanes (map (element 2 (o .z)) (0 ∷ 1 ∷ 2 ∷ 3 ∷ 4 ∷ 5 ∷ 6 ∷ 7 ∷ [])) (o .rises + o .falls) (o .written) (percentOf (o .rises + o .falls) (o .written))
 
 -- element 0 of the new vector, where every element of a source register is the given one
 abbrev pub laneAnswer : Recipe → ℕ → ℕ → ℕ → BenchAnswer

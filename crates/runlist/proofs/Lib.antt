@@ -1,3 +1,4 @@
 pub mod Plans
+pub mod Tallies
 pub mod Runs
 pub mod Answers

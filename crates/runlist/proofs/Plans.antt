@@ -49,10 +49,10 @@ whole-inside list at n p h e = row-within list at n _ p h (told-all _ p e) .1
 
 -- ---- the count
 
-pub words-counted : (list : List ℕ) (lent : Lent) (at n p : ℕ) → numberAt list at ≡ Number n p → n ≤ mostWords → 3 * n ≤ lent .report
+pub words-counted : (list : List ℕ) (lent : Lent) (at n p : ℕ) → numberAt list at ≡ Number n p → n ≤ mostWords → 4 * n ≤ lent .report
     → endedAt list (numbersAt list p n) ≡ wordsFrom list lent at
 unfolding wordsFrom
-words-counted list lent at n p e h k = simp (e, le-leb n mostWords h, le-leb (3 * n) (lent .report) k)
+words-counted list lent at n p e h k = simp (e, le-leb n mostWords h, le-leb (4 * n) (lent .report) k)
 
 -- what a list asks for that ends before its words
 abbrev stops : List ℕ → ℕ → ℕ → ℕ → Refusal → ℕ → Type 0
@@ -72,11 +72,11 @@ module _ (list : List ℕ) (report at z : ℕ) where
     too-many h = stopped list report at z TooManyWords (at + z) (λ za. simp (e, lt-leb n mostWords h))
 
     module _ (h : n ≤ mostWords) where
-      pub no-room : report < 3 * n → CountRead list report at z (front.Refused BadLength 0)
+      pub no-room : report < 4 * n → CountRead list report at z (front.Refused BadLength 0)
       unfolding wordsFrom
-      no-room k = stopped list report at z BadLength 0 (λ za. simp (e, le-leb n mostWords h, lt-leb (3 * n) report k))
+      no-room k = stopped list report at z BadLength 0 (λ za. simp (e, le-leb n mostWords h, lt-leb (4 * n) report k))
 
-      pub count-read : 3 * n ≤ report → at + z ≤ length list → CountRead list report at z (front.Words at p n)
+      pub count-read : 4 * n ≤ report → at + z ≤ length list → CountRead list report at z (front.Words at p n)
       count-read k l =
           record {
             says = λ s za. ap (asking s (take z (drop at list))) (words-counted list (record { z = z; za = za; report = report }) (at + z) n p e h k);

@@ -48,10 +48,10 @@ endedAt list (all ws p) = provided (eqb p (length list)) ExtraBytes p (found ws)
 endedAt list (fault vs r p) = refused r p
 
 -- the count n, which was read at `at`, then n words: 9, at "the first byte of n". "The report's length (2) is tested after 9 and before
--- the first word: at least 3n numbers of 32 bits"
+-- the first word", and "case 2 of the lengths reads 4n" (document 02): at least 4n numbers of 32 bits
 abbrev pub afterCount : List ℕ → Lent → ℕ → Read → Found (List ℕ)
 afterCount list lent at (Number n p) =
-    provided (leb n mostWords) TooManyWords at (provided (leb (3 * n) (lent .report)) BadLength 0 (endedAt list (numbersAt list p n)))
+    provided (leb n mostWords) TooManyWords at (provided (leb (4 * n) (lent .report)) BadLength 0 (endedAt list (numbersAt list p n)))
 afterCount list lent at (Fault r p) = refused r p
 
 -- "a count n; n words", from `at` on

@@ -35,7 +35,7 @@ frontSays (front.Refused r p) s list z = refused r p
 
 -- the z bytes from `at` on are there, the words are not too many, and the report has room for them
 abbrev pub FrontFits : Front → List ℕ → ℕ → ℕ → Type 0
-FrontFits (front.Words at from n) list z report = (at + z ≤ length list) × (n ≤ mostWords) × (3 * n ≤ report)
+FrontFits (front.Words at from n) list z report = (at + z ≤ length list) × (n ≤ mostWords) × (4 * n ≤ report)
 FrontFits (front.Refused r p) list z report = Unit {0}
 
 -- the settings are valid, and Z and ZA have their lengths

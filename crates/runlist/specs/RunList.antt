@@ -23,26 +23,26 @@ pub record Ended : Type 0 where
   pub report : List ℕ
 
 abbrev pub noTally : Tally
-noTally = record { toggled = 0; written = 0 }
+noTally = record { rises = 0; falls = 0; written = 0 }
 
 -- "A running tally is brought up to date by each word"
 unfoldable pub tallied : Tally → List Report → Tally
 tallied t [] = t
-tallied t (r ∷ rs) = tallied (plus t (r .1) (r .2)) rs
+tallied t (r ∷ rs) = tallied (plus t (r .1) (r .2) (r .3)) rs
 
--- "three numbers for each word (refusal or 0, toggled, written) in the report"
-abbrev pub three : Report → List ℕ
-three r = r .0 ∷ r .1 ∷ r .2 ∷ []
+-- document 02: "four numbers for each word (refusal, rises, falls, written)" in the report
+abbrev pub four : Report → List ℕ
+four r = r .0 ∷ r .1 ∷ r .2 ∷ r .3 ∷ []
 
-unfoldable pub threes : List Report → List ℕ
-threes [] = []
-threes (r ∷ rs) = three r ++ threes rs
+unfoldable pub fours : List Report → List ℕ
+fours [] = []
+fours (r ∷ rs) = four r ++ fours rs
 
 -- "A refusal returns its number and zeros, and every lent buffer keeps its contents"
 abbrev pub refusedAt : ℕ → ℕ → List ℕ → List ℕ → List ℕ → Ended
 refusedAt n p z za report = record { number = n; place = p; words = 0; tally = noTally; z = z; za = za; report = report }
 
--- "An accepted list leaves the final Z and ZA, and three numbers for each word .. in the report, whose rest stays"
+-- "An accepted list leaves the final Z and ZA", and the numbers of each word "in the report, whose rest stays"
 abbrev pub ran : ℕ → Run → List ℕ → Ended
 ran n r report =
     record {
@@ -52,7 +52,7 @@ ran n r report =
       tally = tallied noTally (r .reports);
       z = r .z;
       za = r .za;
-      report = threes (r .reports) ++ drop (3 * n) report;
+      report = fours (r .reports) ++ drop (4 * n) report;
     }
 
 -- each word is executed in its turn, from the list's Z bytes on. "ZA starts at zero"
@@ -77,12 +77,12 @@ RunPromise list z za report r z′ za′ report′ = runSays r z′ za′ report
 -- ---- only contracts use these
 
 -- the report with the numbers of word i
-abbrev pub withThree : ℕ → Report → List ℕ → List ℕ
-withThree i r report = take (3 * i) report ++ (three r ++ drop (3 * i + 3) report)
+abbrev pub withFour : ℕ → Report → List ℕ → List ℕ
+withFour i r report = take (4 * i) report ++ (four r ++ drop (4 * i + 4) report)
 
 -- a run as the code leaves it
 pub record Performed (r : Run) (n : ℕ) (report : List ℕ) (t : Tally) (z′ za′ report′ : List ℕ) : Type 0 where
   pub z-is : z′ ≡ r .z
   pub za-is : za′ ≡ r .za
-  pub report-is : report′ ≡ threes (r .reports) ++ drop (3 * n) report
+  pub report-is : report′ ≡ fours (r .reports) ++ drop (4 * n) report
   pub tally-is : t ≡ tallied noTally (r .reports)

@@ -2,12 +2,12 @@ ghost use mathlib.Core.Path.{_≡_};
 ghost use Prim.Native.Nat.{_+_, _*_, _≤_};
 ghost use lib.ListN.{length, take, drop, replicate};
 ghost use Rattle.machine.specs.Execute.{executePaper};
-ghost use Rattle.machine.specs.Run.{threeOf, runOf};
+ghost use Rattle.machine.specs.Run.{fourOf, runOf};
 ghost use Rattle.machine.specs.Loop.{Ready};
 ghost use Rattle.numbers.specs.Numbers.{numbersAt, filled};
 ghost use Rattle.runlist.specs.Plan.{mostWords, endedAt, settingsOf};
 ghost use Rattle.runlist.specs.Rooms.{wordsSay, goesOn, CountRead, RestRead, FrontRead};
-ghost use Rattle.runlist.specs.RunList.{carriedOut, runSays, withThree, RunPromise, Performed};
+ghost use Rattle.runlist.specs.RunList.{carriedOut, runSays, withFour, RunPromise, Performed};
 use machine::Reported;
 use numbers::Read;
 use numbers::Row;
@@ -104,7 +104,7 @@ fn read_count(list: &[u8], report: usize, at: usize, z: usize) -> Front
                     place: at + z,
                 };
             }
-            if report < 3 * n {
+            if report < 4 * n {
                 return Front::Refused {
                     refusal: Refusal::BadLength,
                     place: 0,
@@ -192,12 +192,13 @@ fn clear(bytes: &mut [u8])
 
 // The numbers of word i.
 fn put_report(report: &mut [u32], i: usize, numbers: Reported)
-    requires { ⌜ 3 * i + 3 ≤ length (now report) ⌝ }
-    ensures { λ _. ⌜ now (report .exit) ≡ withThree i (threeOf numbers) (now (report .entry)) ⌝ }
+    requires { ⌜ 4 * i + 4 ≤ length (now report) ⌝ }
+    ensures { λ _. ⌜ now (report .exit) ≡ withFour i (fourOf numbers) (now (report .entry)) ⌝ }
 {
-    report[3 * i] = numbers.refusal;
-    report[3 * i + 1] = numbers.toggled;
-    report[3 * i + 2] = numbers.written;
+    report[4 * i] = numbers.refusal;
+    report[4 * i + 1] = numbers.rises;
+    report[4 * i + 2] = numbers.falls;
+    report[4 * i + 3] = numbers.written;
 }
 
 // Executes each word in its turn, and reports it. A word that is refused changes no register, and the run goes on.
@@ -209,18 +210,19 @@ fn perform(
     report: &mut [u32],
 ) -> Tally
     requires { ⌜ Ready settings (now z) (now za) ⌝ }
-    requires { ⌜ (length (now words) ≤ mostWords) × (3 * length (now words) ≤ length (now report)) ⌝ }
+    requires { ⌜ (length (now words) ≤ mostWords) × (4 * length (now words) ≤ length (now report)) ⌝ }
     ensures { λ t. ⌜ Performed (runOf (executePaper settings) (now (words .entry)) (now (z .entry)) (now (za .entry))) (length (now (words .entry))) (now (report .entry))
         t (now (z .exit)) (now (za .exit)) (now (report .exit)) ⌝ }
 {
     let mut tally = Tally {
-        toggled: 0,
+        rises: 0,
+        falls: 0,
         written: 0,
     };
     let mut i = 0;
     while i < words.len() {
         let numbers = machine::report_of(machine::execute_word(settings, words[i], z, za));
-        tally = tally::counted(tally, numbers.toggled, numbers.written);
+        tally = tally::counted(tally, numbers.rises, numbers.falls, numbers.written);
         put_report(report, i, numbers);
         i += 1;
     }
@@ -239,7 +241,7 @@ fn run_words(
     report: &mut [u32],
 ) -> RunAnswer
     requires { ⌜ Ready settings (now z) (now za) × (at + length (now z) ≤ length (now list)) ⌝ }
-    requires { ⌜ (length (now words) ≤ mostWords) × (3 * length (now words) ≤ length (now report)) ⌝ }
+    requires { ⌜ (length (now words) ≤ mostWords) × (4 * length (now words) ≤ length (now report)) ⌝ }
     ensures { λ r. ⌜ runSays r (now (z .exit)) (now (za .exit)) (now (report .exit))
         ≡ carriedOut (goesOn settings (now (list .entry)) at (length (now (z .entry))) from (length (now (words .entry)))) (now (z .entry)) (now (za .entry)) (now (report .entry)) ⌝ }
 {
@@ -260,7 +262,7 @@ fn run_words(
     }
 }
 
-// Runs a list on Z and ZA that the caller lends, and reports three numbers for each word. A refused list changes nothing.
+// Runs a list on Z and ZA that the caller lends, and reports four numbers for each word. A refused list changes nothing.
 pub fn run(list: &[u8], z: &mut [u8], za: &mut [u8], report: &mut [u32]) -> RunAnswer
     ensures { λ r. ⌜ RunPromise (now (list .entry)) (now (z .entry)) (now (za .entry)) (now (report .entry)) r (now (z .exit)) (now (za .exit)) (now (report .exit)) ⌝ }
 {

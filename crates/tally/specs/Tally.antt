@@ -2,6 +2,6 @@
 use Prim.Native.Nat.{ℕ, _+_}
 use Rattle.tally.specs.declared.Tally.{Tally}
 
--- the tally after one more word, of which so many bits toggled and so many were written
-abbrev pub plus : Tally → ℕ → ℕ → Tally
-plus tally toggled written = record { toggled = tally .toggled + toggled; written = tally .written + written }
+-- the tally after one more word, of which so many bits rose, so many fell and so many were written
+abbrev pub plus : Tally → ℕ → ℕ → ℕ → Tally
+plus tally rises falls written = record { rises = tally .rises + rises; falls = tally .falls + falls; written = tally .written + written }

@@ -1,143 +1,89 @@
--- `chunks::renew` meets its contract. Assumes nothing.
-use mathlib.Core.Path.{_≡_, refl, sym}
-use Prim.Native.Nat.{_+_, _-_, _*_, _/_, _%_, _≤_}
-use native.Mathlib.Omega.{arith}
-use lib.ListN.{length}
-use lib.Bits.{bitXor}
-use lib.Count.{ones}
+-- `chunks::renew` meets its contract, lane by lane. Assumes nothing.
+use Rattle.chunks.proofs.Parts.{array-64, array-32, array-16}
 use borrow.Author.Needs.{needs}
-use Rattle.elements.proofs.Vectors.{putEach}
-use Rattle.bits.specs.Bits.{toggled}
-use Rattle.bits.proofs.Bits.{toggled-same}
-use Rattle.bits.proofs.Put.{Upto, few-ones}
-use Rattle.chunks.specs.Chunk.{evenBytes, Apart}
-use Rattle.chunks.proofs.Parts.{array-widths}
-use Rattle.chunks.proofs.Strides.{chunk-reach}
-use Rattle.chunks.proofs.Renewed.{turned, whole, array-step, array-place}
 use Rattle.chunks.proofs.renew.Statement.{statement}
 use Rattle.chunks.proofs.renew.Tie as tie
 
-abbrev Inv-loop : tie.InvT-loop
-Inv-loop lane wide unsigned subtract za₀ at z x y bytes t₀ o₀ za t o =
-    (o ≤ bytes) × (o % 8 ≡ 0) × Upto za₀ (evenBytes lane wide unsigned subtract za₀ at z x (wide / lane) y (wide / lane) bytes) at o za × (t ≡ toggled za₀ za) × (t ≤ 8 * o) × (length za ≡ length za₀)
+renew-by-requires : tie.Need-renew-by-requires
+renew-by-requires c κs =
+    let i = c .before .before in
+    let s = i .before .before .before in
+    rw (array-64 (s .args .lane) (s .args .wide) (s .pre .0) (i .if1 .taken), i .if1 .taken) at (s .pre)
 
-abbrev μ-loop : tie.MeasureT-loop
-μ-loop lane wide unsigned subtract za₀ at z x y bytes t₀ o₀ za t o = bytes - o
-
-abbrev S : tie.In-loop Inv-loop μ-loop → tie.Start Inv-loop μ-loop
-S c = c .before .before .before .before
-
--- in a turn, eight bytes are left
-eight : (c : tie.In-loop Inv-loop μ-loop) → c .before .loop .o + 8 ≤ S c .args .bytes
-eight c = omega arith
-
-loop-holds : tie.Need-loop-holds Inv-loop μ-loop
-unfolding putEach
-loop-holds c = (omega arith, omega arith, refl, sym (toggled-same _), omega arith, refl)
-
-add-read8 : tie.Need-add-read8 Inv-loop μ-loop
-add-read8 c = omega (arith, eight (c .before))
-
-read8-requires : tie.Need-read8-requires Inv-loop μ-loop
-read8-requires c κs = omega (arith, eight (c .before))
-
--- the lanes of the turn are there
-lanes : (c : tie.In-loop Inv-loop μ-loop)
-    → Apart (S c .args .lane) (64 / S c .args .wide) (S c .args .z .now) (S c .args .x + c .before .loop .o) (S c .args .wide / 8)
-    × Apart (S c .args .lane) (64 / S c .args .wide) (S c .args .z .now) (S c .args .y + c .before .loop .o) (S c .args .wide / 8)
-lanes c =
-    let s = S c in
-    let a = s .args in
-    let l = c .before .loop in
-    let w = array-widths (a .lane) (a .wide) (s .pre .0) in
-    let there = chunk-reach (a .lane) (a .wide) (w .0) (w .1 .0) (a .z .now) in
-    let step = array-step (a .lane) (a .wide) (s .pre .0) in
-    let place = array-place (a .lane) (a .wide) (s .pre .0) in (
-      there (a .x) _ _ (a .bytes) (l .o / 8) _ step (place (a .x) (l .o) (l .inv .1)) (omega (arith, eight c)) (s .pre .1 .1 .0),
-      there (a .y) _ _ (a .bytes) (l .o / 8) _ step (place (a .y) (l .o) (l .inv .1)) (omega (arith, eight c)) (s .pre .1 .1 .1),
-    )
-
-add-array-chunk : tie.Need-add-array-chunk Inv-loop μ-loop
-add-array-chunk c = omega (arith, lanes (c .before .before) .0)
-
-add-array-chunk-2 : tie.Need-add-array-chunk-2 Inv-loop μ-loop
-add-array-chunk-2 c = omega (arith, lanes (c .before .before) .1)
-
-array-chunk-requires : tie.Need-array-chunk-requires Inv-loop μ-loop
-array-chunk-requires c κs = (S (c .before .before) .pre .0, lanes (c .before .before))
-
-add-put8 : tie.Need-add-put8 Inv-loop μ-loop
-add-put8 c = omega (arith, eight (c .before .before .before .before))
-
-put8-requires : tie.Need-put8-requires Inv-loop μ-loop
-put8-requires c κs = omega (arith, eight (c .before .before .before .before))
-
--- what a turn adds
-few : (c : tie.After-slice-known2 Inv-loop μ-loop)
-    → ones (bitXor (c .before .before .before .before .before .read8 .result) (c .before .before .before .before .array-chunk .result)) ≤ 64
-few c =
-    let d = c .before .before .before .before in
-    few-ones _ _ (d .before .read8 .ensures .1) (omega arith)
-
-add-t : tie.Need-add-t Inv-loop μ-loop
-add-t c = omega (arith, few c, eight (c .before .before .before .before .before .before .before))
-
-add-o : tie.Need-add-o Inv-loop μ-loop
-add-o c = omega (arith, eight (c .before .before .before .before .before .before .before))
-
-loop-less : tie.Need-loop-less Inv-loop μ-loop
-loop-less c = omega (arith, eight (c .before .before .before .before .before .before .before))
-
-loop-again : tie.Need-loop-again Inv-loop μ-loop
-loop-again c =
-    let d = c .before .before .before .before in
-    let r = d .before in
-    let g = r .before .before in
-    let l = g .before .loop in
-    let k = g .before .before .before in
-    let s = k .before in
-    let a = s .args in
-    let step = array-step (a .lane) (a .wide) (s .pre .0) in
-    let T =
-    turned (a .lane) (a .wide) (array-widths (a .lane) (a .wide) (s .pre .0) .1 .0) (a .unsigned) (a .subtract) (a .za .now) (a .at) (a .z .now)
-    (a .x) (a .wide / a .lane) (a .wide / 8) (a .y) (a .wide / a .lane) (a .wide / 8) (a .bytes) step step (λ j. k .slice-known .given j .fits) (s .pre .1 .0 .0) (s .pre .1 .0 .1 .0)
-    (l .o) (l .t) (r .read8 .result) (d .array-chunk .result) (a .x + l .o) (a .y + l .o) (l .za) _
-    (l .inv .1) (g .loop-test .taken) (l .inv .2) (l .inv .3)
-    (array-place (a .lane) (a .wide) (s .pre .0) (a .x) (l .o) (l .inv .1)) (array-place (a .lane) (a .wide) (s .pre .0) (a .y) (l .o) (l .inv .1))
-    (r .read8 .ensures .0) (d .array-chunk .ensures) (r .read8 .ensures .1) (omega arith) (c .before .before .put8 .ensures) in
-    (omega (arith, eight g), omega arith, T .upto, T .bits, omega (arith, few c), T .long)
-
-same-length : tie.Need-same-length Inv-loop μ-loop
+same-length : tie.Need-same-length
 same-length c = search needs
 
-returns : tie.Need-returns Inv-loop μ-loop
+returns : tie.Need-returns
 returns c =
-    let l = c .before .loop in
-    let k = c .before .before .before in
-    let s = k .before in
-    let a = s .args in
-    let step = array-step (a .lane) (a .wide) (s .pre .0) in
-    whole (a .lane) (a .wide) (array-widths (a .lane) (a .wide) (s .pre .0) .1 .0) (a .unsigned) (a .subtract) (a .za .now) (a .at) (a .z .now)
-    (a .x) (a .wide / a .lane) (a .wide / 8) (a .y) (a .wide / a .lane) (a .wide / 8) (a .bytes) step step (λ j. k .slice-known .given j .fits) (s .pre .1 .0 .0) (s .pre .1 .0 .1 .0)
-    (l .o) (l .t) (l .za) (l .inv .1) (l .inv .0) (c .loop-test .left) (l .inv .2) (l .inv .3) (l .inv .4)
+    let r = c .before .before in
+    let j = r .before .before in
+    let i = j .before in
+    let s = i .before .before .before in
+    rw (array-64 (s .args .lane) (s .args .wide) (s .pre .0) (i .if1 .taken), i .if1 .taken, j .if2 .taken) (r .renew-by .ensures)
+
+renew-by-requires-2 : tie.Need-renew-by-requires-2
+renew-by-requires-2 c κs =
+    let i = c .before .before in
+    let s = i .before .before .before in
+    rw (array-64 (s .args .lane) (s .args .wide) (s .pre .0) (i .if1 .taken), i .if1 .taken) at (s .pre)
+
+same-length-2 : tie.Need-same-length-2
+same-length-2 c = search needs
+
+returns-2 : tie.Need-returns-2
+returns-2 c =
+    let r = c .before .before in
+    let j = r .before .before in
+    let i = j .before in
+    let s = i .before .before .before in
+    rw (array-64 (s .args .lane) (s .args .wide) (s .pre .0) (i .if1 .taken), i .if1 .taken, j .if2 .left) (r .renew-by2 .ensures)
+
+renew-by-requires-3 : tie.Need-renew-by-requires-3
+renew-by-requires-3 c κs =
+    let i = c .before in
+    let s = i .before .before .before .before in
+    rw (array-32 (s .args .lane) (s .args .wide) (s .pre .0) (i .before .if1 .left), i .if3 .taken) at (s .pre)
+
+same-length-3 : tie.Need-same-length-3
+same-length-3 c = search needs
+
+returns-3 : tie.Need-returns-3
+returns-3 c =
+    let r = c .before .before in
+    let i = r .before .before in
+    let s = i .before .before .before .before in
+    rw (array-32 (s .args .lane) (s .args .wide) (s .pre .0) (i .before .if1 .left), i .if3 .taken) (r .renew-by3 .ensures)
+
+renew-by-requires-4 : tie.Need-renew-by-requires-4
+renew-by-requires-4 c κs =
+    let i = c .before in
+    let s = i .before .before .before .before in
+    rw (array-32 (s .args .lane) (s .args .wide) (s .pre .0) (i .before .if1 .left), array-16 (s .args .lane) (s .args .wide) (s .pre .0) (i .if3 .left)) at (s .pre)
+
+same-length-4 : tie.Need-same-length-4
+same-length-4 c = search needs
+
+returns-4 : tie.Need-returns-4
+returns-4 c =
+    let r = c .before .before in
+    let i = r .before .before in
+    let s = i .before .before .before .before in
+    rw (array-32 (s .args .lane) (s .args .wide) (s .pre .0) (i .before .if1 .left), array-16 (s .args .lane) (s .args .wide) (s .pre .0) (i .if3 .left))
+    (r .renew-by4 .ensures)
 
 pub renew-spec : {M : Type 1} → statement M
 renew-spec =
     tie.close
     (tie.spec
-    Inv-loop
-    μ-loop
-    loop-holds
-    add-read8
-    read8-requires
-    add-array-chunk
-    add-array-chunk-2
-    array-chunk-requires
-    add-put8
-    put8-requires
-    add-t
-    add-o
-    loop-less
-    loop-again
+    renew-by-requires
     same-length
-    returns)
+    returns
+    renew-by-requires-2
+    same-length-2
+    returns-2
+    renew-by-requires-3
+    same-length-3
+    returns-3
+    renew-by-requires-4
+    same-length-4
+    returns-4)

@@ -21,6 +21,29 @@ put-word-requires c κs = search needs
 mul-first : tie.Need-mul-first
 mul-first c = search needs
 
+add-toggled : tie.Need-add-toggled
+add-toggled c = search needs
+
+mul-toggled : tie.Need-mul-toggled
+mul-toggled c = search needs
+
+shared-slice-read-toggled : tie.Need-shared-slice-read-toggled
+shared-slice-read-toggled c = search needs
+
+add-toggled-2 : tie.Need-add-toggled-2
+add-toggled-2 c = search needs
+
+mul-toggled-2 : tie.Need-mul-toggled-2
+mul-toggled-2 c = search needs
+
+shared-slice-read-toggled-2 : tie.Need-shared-slice-read-toggled-2
+shared-slice-read-toggled-2 c = search needs
+
+add-toggled-3 : tie.Need-add-toggled-3
+add-toggled-3 c =
+    let entry = c .before .before .before .before .before .before .before .before .before .before in
+    record { fits = entry .pre .1 .1 (entry .args .i) (entry .pre .1 .0 .0) }
+
 mul-put-outcome : tie.Need-mul-put-outcome
 mul-put-outcome c = search needs
 
@@ -36,15 +59,6 @@ mul-put-outcome-2 c = search needs
 shared-slice-read-put-outcome-2 : tie.Need-shared-slice-read-put-outcome-2
 shared-slice-read-put-outcome-2 c = search needs
 
-add-put-outcome-2 : tie.Need-add-put-outcome-2
-add-put-outcome-2 c = search needs
-
-mul-put-outcome-3 : tie.Need-mul-put-outcome-3
-mul-put-outcome-3 c = search needs
-
-shared-slice-read-put-outcome-3 : tie.Need-shared-slice-read-put-outcome-3
-shared-slice-read-put-outcome-3 c = search needs
-
 put-outcome-requires : tie.Need-put-outcome-requires
 put-outcome-requires c κs = search needs
 
@@ -55,7 +69,7 @@ returns : tie.Need-returns
 unfolding wordLine
 returns c =
     let second = c .before .before in
-    let first = second .before .before .before .before .before .before .before in
+    let first = second .before .before .before .before .before .before .before .before in
     (and-then (first .put-word .ensures .0) (second .put-outcome .ensures .0), omega arith)
 
 pub put-line-spec : {M : Type 1} → statement M
@@ -67,14 +81,18 @@ put-line-spec =
     shared-slice-read-put-word
     put-word-requires
     mul-first
+    add-toggled
+    mul-toggled
+    shared-slice-read-toggled
+    add-toggled-2
+    mul-toggled-2
+    shared-slice-read-toggled-2
+    add-toggled-3
     mul-put-outcome
     shared-slice-read-put-outcome
     add-put-outcome
     mul-put-outcome-2
     shared-slice-read-put-outcome-2
-    add-put-outcome-2
-    mul-put-outcome-3
-    shared-slice-read-put-outcome-3
     put-outcome-requires
     same-length
     returns)

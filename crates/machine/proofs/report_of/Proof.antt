@@ -23,7 +23,7 @@ returns c = ap (λ (e : Executed). reportOf (executedSays e [] [])) (sym (c .bef
 
 returns-2 : tie.Need-returns-2
 returns-2 c =
-    ap (λ (n : ℕ). (n, 0, 0)) (c .refusal-number .ensures)
+    ap (λ (n : ℕ). (n, 0, 0, 0)) (c .refusal-number .ensures)
     ∙ ap (λ (e : Executed). reportOf (executedSays e [] [])) (sym (c .before .before .executed2 .given .1))
 
 pub report-of-spec : {M : Type 1} → statement M

@@ -1,7 +1,9 @@
 -- `machine::step` meets its contract. Assumes nothing.
 use native.Mathlib.Omega.{arith}
 use borrow.Author.Needs.{needs}
+use Rattle.machine.specs.Execute.{stepped}
 use Rattle.machine.proofs.Stepping.{outcome-is, bits-small}
+use Rattle.machine.proofs.Small.{Small, step-small}
 use Rattle.machine.proofs.step.Statement.{statement}
 use Rattle.machine.proofs.step.Tie as tie
 
@@ -23,6 +25,20 @@ written-bits-requires c κs =
     let s = n .before .before .before in
     (bits-small (s .args .settings) (s .args .z .now) (s .args .za .now) (s .pre .0), omega (arith, s .pre .1 .first))
 
+-- the counts of the step are small
+small : (s : tie.Start) → Small (stepped (s .args .settings) (s .args .fields) (s .args .z .now) (s .args .za .now))
+small s = step-small (s .args .settings) (s .args .fields) (s .args .z .now) (s .args .za .now) (s .pre .0) (s .pre .1)
+
+cast-rises : tie.Need-cast-rises
+cast-rises c =
+    let p = c .before .before .before .before .before .before in
+    omega (arith, p .step-files .ensures .rose, small (p .before .before .before .before .before .before) .0)
+
+cast-falls : tie.Need-cast-falls
+cast-falls c =
+    let p = c .before .before .before .before .before .before .before in
+    omega (arith, p .step-files .ensures .fell, small (p .before .before .before .before .before .before) .1)
+
 same-length : tie.Need-same-length
 same-length c = search needs
 
@@ -31,10 +47,11 @@ same-length-2 c = search needs
 
 returns : tie.Need-returns
 returns c =
-    let p = c .before .before .before .before .before in
+    let w = c .before .before in
+    let p = w .before .before .before .before .before in
     let n = p .before .before .before in
     let s = n .before .before .before in
-    outcome-is (s .args .settings) (s .args .fields) _ _ (s .args .z .now) (s .args .za .now) _ _ (p .step-files .ensures) (c .written-bits .ensures)
+    outcome-is (s .args .settings) (s .args .fields) _ _ (s .args .z .now) (s .args .za .now) _ _ (p .step-files .ensures) (w .written-bits .ensures)
 
 pub step-spec : {M : Type 1} → statement M
 step-spec =
@@ -44,6 +61,8 @@ step-spec =
     cast-w
     step-files-requires
     written-bits-requires
+    cast-rises
+    cast-falls
     same-length
     same-length-2
     returns)

@@ -6,7 +6,7 @@ use lib.ListN.{length, getD}
 use Rattle.machine.specs.Execute.{executePaper}
 use Rattle.machine.proofs.Executing.{still-ready}
 use borrow.Author.Needs.{needs}
-use Rattle.runlist.proofs.Runs.{Running, starting, WordRun, word-run, counts-small, turn, finished}
+use Rattle.runlist.proofs.Runs.{Running, starting, WordRun, word-run, counted-within, turn, finished}
 use Rattle.runlist.proofs.perform.Statement.{statement}
 use Rattle.runlist.proofs.perform.Tie as tie
 
@@ -53,9 +53,8 @@ report-of-requires c κs = search needs
 
 counted-requires : tie.Need-counted-requires Inv-loop μ-loop
 counted-requires c κs =
-    let few = counts-small _ _ _ _ _ _ _ (word-done c) in
-    let so-far = head (executed c) .loop .inv .4 in
-    (omega (arith, few .0, so-far .toggled-small), omega (arith, few .1, so-far .written-small))
+    let few = counted-within _ _ _ _ _ _ _ _ _ (word-done c) (head (executed c) .loop .inv .4 .small) in
+    (omega (arith, few .0), omega (arith, few .1), omega (arith, few .2))
 
 put-report-requires : tie.Need-put-report-requires Inv-loop μ-loop
 put-report-requires c κs = search needs
@@ -72,7 +71,7 @@ loop-again c =
     let counted = put .before .before in
     let done = executed (counted .before) in
     let l = head done .loop in
-    let room : 3 * l .i + 3 ≤ length (l .report) = omega (arith, entry (head done) .pre .1 .1, done .before .before .before .before .loop-test .taken, l .inv .3) in (
+    let room : 4 * l .i + 4 ≤ length (l .report) = omega (arith, entry (head done) .pre .1 .1, done .before .before .before .before .loop-test .taken, l .inv .3) in (
       omega arith,
       done .execute-word .kept .1 .1 .0 ∙ l .inv .1,
       done .execute-word .kept .1 .1 .1 .0 ∙ l .inv .2,

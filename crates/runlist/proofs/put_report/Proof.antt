@@ -1,7 +1,7 @@
 -- `runlist::put_report` meets its contract. Assumes nothing.
 use native.Mathlib.Omega.{arith}
 use lib.ListN.{length-set}
-use Rattle.machine.specs.Run.{threeOf}
+use Rattle.machine.specs.Run.{fourOf}
 use Rattle.runlist.proofs.Runs.{stored}
 use borrow.Author.Needs.{needs}
 use Rattle.runlist.proofs.put_report.Statement.{statement}
@@ -40,13 +40,25 @@ mul-report-6 c = search needs
 slice-write-report-3 : tie.Need-slice-write-report-3
 slice-write-report-3 c = simp length-set (omega arith)
 
+mul-report-7 : tie.Need-mul-report-7
+mul-report-7 c = search needs
+
+add-report-3 : tie.Need-add-report-3
+add-report-3 c = search needs
+
+mul-report-8 : tie.Need-mul-report-8
+mul-report-8 c = search needs
+
+slice-write-report-4 : tie.Need-slice-write-report-4
+slice-write-report-4 c = simp length-set (omega arith)
+
 same-length : tie.Need-same-length
 same-length c = search needs
 
 returns : tie.Need-returns
 returns c =
     let a = c .args in
-    stored (a .i) (threeOf (a .numbers)) (a .report .now) (search needs)
+    stored (a .i) (fourOf (a .numbers)) (a .report .now) (search needs)
 
 pub put-report-spec : {M : Type 1} → statement M
 put-report-spec =
@@ -63,5 +75,9 @@ put-report-spec =
     add-report-2
     mul-report-6
     slice-write-report-3
+    mul-report-7
+    add-report-3
+    mul-report-8
+    slice-write-report-4
     same-length
     returns)

@@ -62,7 +62,7 @@ planned c n e =
     ap₂ (λ (s : Settings) (m : ℕ). goesOn s (a .list .now) (place g) (length (a .z .now)) (from g) m) (c .settings-of .ensures) e ∙ known g .says
 
 -- the first n places of a room are as many
-fit : (n report : ℕ) (room : List ℕ) → n ≤ length room → n ≤ mostWords → 3 * n ≤ report → (length (take n room) ≤ mostWords) × (3 * length (take n room) ≤ report)
+fit : (n report : ℕ) (room : List ℕ) → n ≤ length room → n ≤ mostWords → 4 * n ≤ report → (length (take n room) ≤ mostWords) × (4 * length (take n room) ≤ report)
 fit n report room h m k = let long = length-take-le n room h in (omega arith, omega arith)
 
 slice-aggregate-read-front : tie.Need-slice-aggregate-read-front

@@ -4,14 +4,17 @@ use borrow.Author.Needs.{needs}
 use Rattle.tally.proofs.added.Statement.{statement}
 use Rattle.tally.proofs.added.Tie as tie
 
-add-toggled : tie.Need-add-t4
-add-toggled c = search needs
+add-rises : tie.Need-add-t5
+add-rises c = search needs
 
-add-written : tie.Need-add-t5
+add-falls : tie.Need-add-t6
+add-falls c = search needs
+
+add-written : tie.Need-add-t7
 add-written c = search needs
 
 returns : tie.Need-returns
 returns c = refl
 
 pub added-spec : {M : Type 1} → statement M
-added-spec = tie.close (tie.spec add-toggled add-written returns)
+added-spec = tie.close (tie.spec add-rises add-falls add-written returns)

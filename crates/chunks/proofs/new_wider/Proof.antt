@@ -1,19 +1,18 @@
--- `chunks::renew_wider` meets its contract. Assumes nothing.
+-- `chunks::new_wider` meets its contract. Assumes nothing.
 use mathlib.Core.Path.{_≡_, refl}
 use mathlib.Core.Logic.{inr}
 use Prim.Native.Nat.{ℕ, _+_, _*_, _/_, _≤_}
-use native.Mathlib.Nat.{mul-le-mul-left}
+use native.Mathlib.Nat.{add-zero, mul-le-mul-left}
 use native.Mathlib.Omega.{arith}
 use lib.Dec.{lit≤}
 use Rattle.elements.specs.Lanes.{IsLane, each, chosenAt}
 use Rattle.lanes.proofs.Widths.{lane-range, doubled}
-use Rattle.bits.proofs.Put.{few-ones}
 use Rattle.chunks.specs.Chunk.{Apart}
-use Rattle.chunks.proofs.Strides.{chunk-reach}
-use Rattle.chunks.proofs.Renewed.{both-turns, v-place}
+use Rattle.chunks.proofs.Strides.{chunk-reach, chunk-at}
+use Rattle.chunks.proofs.Renewed.{v-place}
 use borrow.Author.Needs.{needs}
-use Rattle.chunks.proofs.renew_wider.Statement.{statement}
-use Rattle.chunks.proofs.renew_wider.Tie as tie
+use Rattle.chunks.proofs.new_wider.Statement.{statement}
+use Rattle.chunks.proofs.new_wider.Tie as tie
 
 -- both chunks have their lanes, in the first source and in the second
 abbrev Lanes : tie.Start → ℕ → ℕ → Type 0
@@ -50,61 +49,41 @@ read8-requires-2 c κs = search needs
 
 v-chunk-requires : tie.Need-v-chunk-requires
 v-chunk-requires c κs =
-    let s = c .before .before .before .before .before .before in
+    let s = c .before .before .before in
     (s .pre .0, low s)
 
 add-v-chunk : tie.Need-add-v-chunk
-add-v-chunk c = omega (arith, high (c .before .before .before .before .before .before .before .before) .0)
+add-v-chunk c = omega (arith, high (c .before .before .before .before) .0)
 
 mul-v-chunk : tie.Need-mul-v-chunk
-mul-v-chunk c = omega (arith, high (c .before .before .before .before .before .before .before .before) .1)
+mul-v-chunk c = omega (arith, high (c .before .before .before .before) .1)
 
 add-v-chunk-2 : tie.Need-add-v-chunk-2
-add-v-chunk-2 c = omega (arith, high (c .before .before .before .before .before .before .before .before) .1)
+add-v-chunk-2 c = omega (arith, high (c .before .before .before .before) .1)
 
 v-chunk-requires-2 : tie.Need-v-chunk-requires-2
 v-chunk-requires-2 c κs =
-    let s = c .before .before .before .before .before .before .before .before in
+    let s = c .before .before .before .before in
     (s .pre .0, high s)
-
-put8-requires : tie.Need-put8-requires
-put8-requires c κs = search needs
-
-add-put8 : tie.Need-add-put8
-add-put8 c = search needs
-
-put8-requires-2 : tie.Need-put8-requires-2
-put8-requires-2 c κs = search needs
-
-add-result : tie.Need-add-result
-add-result c =
-    let h = c .before .before .before .before .before .before .before .before in
-    let r = h .before .before .before .before in
-    omega (arith, few-ones _ (h .before .before .v-chunk .result) (r .before .before .read8 .ensures .1) (omega arith), few-ones _ (h .v-chunk2 .result) (r .read82 .ensures .1) (omega arith))
-
-same-length : tie.Need-same-length
-same-length c = search needs
 
 returns : tie.Need-returns
 returns c =
-    let p = c .before .before .before .before .before .before in
-    let h = p .before .before in
-    let g = h .before .before in
-    let r = g .before .before in
-    let q = r .before .before in
-    let k = q .before .before in
+    let g = c .before in
+    let r = g .before in
+    let q = r .before in
+    let k = q .before in
     let s = k .before in
     let a = s .args in
     let l : IsLane (a .lane) = inr (s .pre .0) in
-    both-turns (a .lane) (2 * a .lane) (doubled (a .lane) l .1 .0) (a .unsigned) (a .subtract) (a .z .now) (a .at)
-    (a .x) 1 (a .lane / 8) (a .y) (a .by) (a .by * (a .lane / 8)) (omega arith) refl (λ j. k .slice-known .given j .fits) (s .pre .1 .0)
-    (q .read8 .result) (g .v-chunk .result) (r .read82 .result) (h .v-chunk2 .result) _ _ _ _ (v-place (a .lane) l (a .x) 1) (v-place (a .lane) l (a .y) (a .by))
-    (q .read8 .ensures .0) (r .read82 .ensures .0) (g .v-chunk .ensures) (h .v-chunk2 .ensures)
-    (q .read8 .ensures .1) (omega arith) (r .read82 .ensures .1) (omega arith)
-    (p .put8 .ensures) (c .before .before .put82 .ensures)
+    let word =
+    chunk-at (a .lane) (2 * a .lane) (doubled (a .lane) l .1 .0) (a .unsigned) (a .subtract) (a .z .now) (a .at) (a .z .now)
+    (a .x) 1 (a .lane / 8) (a .y) (a .by) (a .by * (a .lane / 8)) (omega arith) refl (λ j. k .shared-slice-known .given j .fits) in (
+      rw (g .v-chunk .ensures) (word 0 16 _ (a .x) (a .y) (lit≤ tt) (rw (add-zero (a .at)) (q .read8 .ensures .0)) (omega arith) (omega arith)),
+      rw (c .v-chunk2 .ensures) (word 1 16 _ _ _ (lit≤ tt) (r .read82 .ensures .0) (v-place (a .lane) l (a .x) 1) (v-place (a .lane) l (a .y) (a .by))),
+    )
 
-pub renew-wider-spec : {M : Type 1} → statement M
-renew-wider-spec =
+pub new-wider-spec : {M : Type 1} → statement M
+new-wider-spec =
     tie.close
     (tie.spec
     mul-dy
@@ -116,9 +95,4 @@ renew-wider-spec =
     mul-v-chunk
     add-v-chunk-2
     v-chunk-requires-2
-    put8-requires
-    add-put8
-    put8-requires-2
-    add-result
-    same-length
     returns)
