@@ -11,26 +11,30 @@ static uint32_t *row_of(struct answers *a, uint32_t word)
     return a->report + SECOND_PER_WORD * word;
 }
 
-static void add_row(struct answers *a, const uint32_t *row)
+/* After a pass, and not after each word: the compiler reads a row's four numbers at once, and a core waits for a wide
+ * read of what was just written in pieces. */
+static void add_rows(struct answers *a, uint32_t words)
 {
-    for (int i = 0; i < SECOND_PER_WORD; i++)
-        a->sums[i] += row[i];
+    for (uint32_t word = 0; word < words; word++)
+        for (int i = 0; i < SECOND_PER_WORD; i++)
+            a->sums[i] += row_of(a, word)[i];
 }
 
 static void library_execute(const struct work *w, uint32_t passes, struct answers *a)
 {
-    for (uint32_t pass = 0; pass < passes; pass++)
+    for (uint32_t pass = 0; pass < passes; pass++) {
         for (uint32_t i = 0; i < w->count; i++) {
             uint32_t *row = row_of(a, i);
             row[0] = callinglamp_refusal(callinglamp_execute(w->settings.numbers, w->words[i], a->registers.z,
                                                              w->z_length, a->registers.za, w->za_length, row + 1));
-            add_row(a, row);
         }
+        add_rows(a, w->count);
+    }
 }
 
 static void second_execute_all(const struct work *w, uint32_t passes, struct answers *a)
 {
-    for (uint32_t pass = 0; pass < passes; pass++)
+    for (uint32_t pass = 0; pass < passes; pass++) {
         for (uint32_t i = 0; i < w->count; i++) {
             uint32_t *row = row_of(a, i);
             struct second_counts counts;
@@ -39,8 +43,9 @@ static void second_execute_all(const struct work *w, uint32_t passes, struct ans
             row[1] = counts.rises;
             row[2] = counts.falls;
             row[3] = counts.written;
-            add_row(a, row);
         }
+        add_rows(a, w->count);
+    }
 }
 
 static void library_decode(const struct work *w, uint32_t passes, struct answers *a)
