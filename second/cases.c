@@ -153,6 +153,23 @@ static void top_registers(uint32_t family)
         }
 }
 
+/* What a word of A or B clears: nothing, a byte here and there, every bit. */
+static void upper_parts(uint32_t family)
+{
+    static const uint32_t held[] = {4, FILL_SPARSE, FILL_SPARSE, 1};
+    struct second_fields variants[8];
+    uint32_t count = lanes_of(family, variants);
+    for (uint32_t v = 0; v < count; v++)
+        for (uint32_t i = 0; i < sizeof held / sizeof *held; i++)
+            for (uint32_t vl = 256; vl <= 512; vl *= 2) {
+                struct second_fields f = variants[v];
+                choose_rest(&f);
+                struct one_case c = permitted(vl, &f);
+                c.z.kind = held[i];
+                take(&c);
+            }
+}
+
 /* W at the top of 32 bits and round each stride, with each offset: the sum goes past 2^32. */
 static void select_values(uint32_t family)
 {
@@ -281,4 +298,6 @@ void make_cases(uint32_t seed, take_case *taker)
     lengths_refused();
     words_refused();
     modes_tried();
+    upper_parts(SECOND_FAMILY_A);
+    upper_parts(SECOND_FAMILY_B);
 }

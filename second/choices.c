@@ -34,14 +34,22 @@ static uint8_t extreme_byte(uint32_t kind, size_t place)
     }
 }
 
+/* Most bytes are zero, so that a register often has few that are not. */
+static uint8_t sparse_byte(uint32_t x)
+{
+    return (x >> 16) % 32 == 0 ? (uint8_t)(x >> 24) : 0;
+}
+
 void fill(uint8_t *bytes, size_t length, uint32_t kind, uint32_t seed)
 {
     uint32_t x = seed;
     for (size_t i = 0; i < length; i++) {
-        if (kind == FILL_RANDOM || i % 4 == 0)
+        if (kind == FILL_RANDOM || kind == FILL_SPARSE || i % 4 == 0)
             x = next_state(x);
         if (kind == FILL_RANDOM)
             bytes[i] = (uint8_t)(x >> 24);
+        else if (kind == FILL_SPARSE)
+            bytes[i] = sparse_byte(x);
         else
             bytes[i] = extreme_byte(kind == FILL_MIXED ? 1 + (x >> 24) % 8 : kind, i);
     }

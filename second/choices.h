@@ -7,6 +7,9 @@
 
 enum { FILL_RANDOM = 0, FILL_MIXED = 9, FILL_KINDS = 10 };
 
+/* One kind more, which is not among those that are taken in turn or by choice. */
+enum { FILL_SPARSE = FILL_KINDS };
+
 extern const uint32_t vls[3];
 
 void fill(uint8_t *bytes, size_t length, uint32_t kind, uint32_t seed);

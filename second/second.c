@@ -326,11 +326,13 @@ static inline void half_step(const struct second_fields *f, const uint8_t *n, co
     }
 }
 
+/* A write of a V register, the low 16 bytes, sets the rest of the Z register to zero: the new register is zero above the
+ * lanes, and the whole of it is put in place and counted. */
 static struct toggles execute_ab(const struct second_settings *s, const struct second_fields *f, uint8_t *z)
 {
     size_t bytes = s->vl / 8;
     const uint8_t *n = z + f->first * bytes, *m = z + f->second * bytes;
-    uint8_t *d = z + f->destination * bytes, new[16];
+    uint8_t *d = z + f->destination * bytes, new[MOST_VECTOR_BYTES] = {0};
     switch (f->lane) {
     case 8:
         half_step(f, n, m, d, new, 8);
@@ -342,7 +344,7 @@ static struct toggles execute_ab(const struct second_settings *s, const struct s
         half_step(f, n, m, d, new, 32);
         break;
     }
-    return replace(d, new, sizeof new);
+    return replace(d, new, bytes);
 }
 
 /* The two clamps of C. Doubling is decided on the product before it: -2^31 squared, doubled, has no 64-bit form. Only
@@ -451,7 +453,7 @@ static int execute_valid(const struct second_settings *s, uint32_t word, uint8_t
     case SECOND_FAMILY_A:
     case SECOND_FAMILY_B:
         t = execute_ab(s, &f, z);
-        counts->written = 128;
+        counts->written = s->vl;
         break;
     case SECOND_FAMILY_C:
         t = execute_c(s, &f, z);

@@ -1,5 +1,5 @@
-/* The second program's library: document 01 and requests One and Two of document 02 in C. The proved library is held to
- * it.
+/* The second program's library: document 01 and requests One, Two and Three of document 02 in C. The proved library is
+ * held to it.
  *
  * Every call returns a refusal number of these papers, or 0. A refused call puts zeros in its small answers (fields, a
  * word, counts, a place, a length) and leaves every lent buffer (Z, ZA, report, room) as it was. */
@@ -81,7 +81,7 @@ int second_print(const struct second_settings *settings, uint32_t word, char *ro
 int second_read(const struct second_settings *settings, const char *text, size_t text_len, uint32_t *word);
 
 /* The bits of Z and ZA that were 0 and are 1, those that were 1 and are 0, and how many were written. Toggled is rises
- * plus falls. */
+ * plus falls. A word of A or B writes its whole Z register: its lanes, and zeros from byte 16 on. */
 struct second_counts {
     uint32_t rises;
     uint32_t falls;

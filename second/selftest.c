@@ -20,13 +20,28 @@ static void check(int holds, const char *what)
     }
 }
 
+/* What holds of a word of A or B that has run, whatever it multiplied: its destination is zero from byte 16 on, it has
+ * written VL bits, and what it cleared is among its falls. */
+static void check_upper(const struct second_settings *s, uint32_t word, const uint8_t *z, uint32_t cleared,
+                        const struct second_counts *c)
+{
+    struct second_fields f;
+    if (second_decode(s, word, &f) != 0 || f.family > SECOND_FAMILY_B)
+        return;
+    check(ones_to_clear(s, word, z) == 0, "execute: zeros from byte 16 on");
+    check(c->written == s->vl && c->falls >= cleared, "execute: VL is written, and cleared bits fall");
+}
+
 /* Every execution of this file goes this way. Refused or not, ones and falls after it are ones before it and rises, and
  * the bits that differ are as many as rises and falls. Both together leave no other numbers for the two. */
 static int execute(const struct second_settings *s, uint32_t word, uint8_t *z, size_t z_len, uint8_t *za, size_t za_len,
                    struct second_counts *c)
 {
     static uint8_t z_differ[SECOND_MOST_Z + 1], za_differ[SECOND_MOST_ZA + 1];
-    uint32_t before = ones_in(z, z_len) + ones_in(za, za_len);
+    uint32_t before = ones_in(z, z_len) + ones_in(za, za_len), cleared = 0;
+    /* Of a refused call the lengths may be any. */
+    if (z_len == second_z_length(s->vl))
+        cleared = ones_to_clear(s, word, z);
     memcpy(z_differ, z, z_len);
     memcpy(za_differ, za, za_len);
     memset(c, 0xA5, sizeof *c);
@@ -39,6 +54,8 @@ static int execute(const struct second_settings *s, uint32_t word, uint8_t *z, s
     check(ones_in(z_differ, z_len) + ones_in(za_differ, za_len) == c->rises + c->falls, "execute: toggled is the sum");
     check(refusal == 0 ? c->rises + c->falls <= c->written : c->rises == 0 && c->falls == 0 && c->written == 0,
           "execute: counts within written, and zeros of a refusal");
+    if (refusal == 0)
+        check_upper(s, word, z, cleared, c);
     return refusal;
 }
 
@@ -119,6 +136,157 @@ static void rows_of_ab(void)
     check(decoded(1, 0x0EE28020, &f) == 3, "P7");
 }
 
+/* The upper part of a V write: request Three. One machine at VL 256 or 512, and what it was before the last word. */
+static struct {
+    struct second_settings s;
+    uint8_t z[SECOND_MOST_Z], za[SECOND_MOST_ZA];
+    struct second_counts c;
+} wide, was;
+
+static uint8_t *wide_register(uint32_t r)
+{
+    return wide.z + r * (wide.s.vl / 8);
+}
+
+/* Every byte is this one, or a register's, or those from byte 16 on. */
+static void set_up_wide(uint32_t vl, uint8_t byte)
+{
+    memset(&wide, 0, sizeof wide);
+    wide.s.vl = vl;
+    wide.s.features = 31;
+    memset(wide.z, byte, second_z_length(vl));
+    memset(wide.za, 0x5A, second_za_length(vl));
+}
+
+static void set_register(uint32_t r, uint8_t low, uint8_t upper)
+{
+    memset(wide_register(r), low, 16);
+    memset(wide_register(r) + 16, upper, wide.s.vl / 8 - 16);
+}
+
+static int step_wide(uint32_t word)
+{
+    was = wide;
+    return execute(&wide.s, word, wide.z, second_z_length(wide.s.vl), wide.za, second_za_length(wide.s.vl), &wide.c);
+}
+
+/* The register's 16-bit lanes are this number, zeros follow them, and no other byte has changed: the bytes next to the
+ * register, which are those of its neighbours, have not. */
+static int leaves(uint32_t r, uint32_t lane16)
+{
+    size_t bytes = wide.s.vl / 8;
+    uint8_t *d = was.z + r * bytes;
+    memset(d, 0, bytes);
+    for (int e = 0; e < 8; e++) {
+        d[2 * e] = (uint8_t)lane16;
+        d[2 * e + 1] = (uint8_t)(lane16 >> 8);
+    }
+    return memcmp(wide.z, was.z, sizeof wide.z) == 0 && memcmp(wide.za, was.za, sizeof wide.za) == 0;
+}
+
+static int counted_wide(uint32_t rises, uint32_t falls)
+{
+    return wide.c.rises == rises && wide.c.falls == falls && wide.c.written == wide.s.vl;
+}
+
+/* Row P1 on a wider machine. `upper` is how many bytes lie above the V register: each has one bit to clear. The partner
+ * brings the lanes back, and not those. */
+static void upper_of_p1(uint32_t vl, uint32_t upper)
+{
+    set_up_wide(vl, 1);
+    check(step_wide(0x0E228020) == 0 && leaves(0, 0x0102) && counted_wide(8, 8 + upper), "P1, wide");
+    check(second_percent(wide.c.rises + wide.c.falls, wide.c.written) == 12, "P1, wide: percent");
+    check(step_wide(0x0E228020) == 0 && leaves(0, 0x0103) && counted_wide(8, 0), "P1, wide: nothing left to clear");
+    check(step_wide(0x0E22A020) == 0 && leaves(0, 0x0102) && counted_wide(0, 8), "P1, wide: a partner");
+    check(step_wide(0x0E22A020) == 0 && leaves(0, 0x0101) && counted_wide(8, 8), "P1, wide: the other");
+    check(ones_in(wide.z, second_z_length(vl)) == 32 * (vl / 8) - upper, "P1, wide: what was cleared stays so");
+}
+
+/* Products of zeros: the lanes stay, and whatever lies above them falls. */
+static void upper_alone(uint32_t vl, uint32_t upper)
+{
+    set_up_wide(vl, 0xFF);
+    memset(wide_register(1), 0, 16);
+    check(step_wide(0x0E228020) == 0 && leaves(0, 0xFFFF) && counted_wide(0, 8 * upper), "all ones above a V register");
+    /* The upper part of a source is not read, and one byte is found wherever it lies. */
+    for (uint32_t at = 16; at < vl / 8; at++) {
+        set_up_wide(vl, 0xFF);
+        set_register(1, 0, 0xFF);
+        set_register(0, 0x22, 0);
+        wide_register(0)[at] = 0xE5;
+        check(step_wide(0x0E228020) == 0 && leaves(0, 0x2222) && counted_wide(0, 5), "one byte above a V register");
+    }
+    set_up_wide(vl, 0xFF);
+    set_register(0, 0x22, 0);
+    memset(wide_register(1), 0, 16);
+    check(step_wide(0x0E228020) == 0 && leaves(0, 0x2222) && counted_wide(0, 0), "no ones above a V register");
+}
+
+/* A destination that is a source: FF times FF is 1 signed and FE01 unsigned, and FFFF becomes 0000 and FE00. So VL bits
+ * fall in the first. In the last the factors are bytes 8 to 15 of the register, and no byte above them: 0000 becomes
+ * 0001 in four lanes, and 0101 becomes 0102 in the other four. */
+static void upper_of_sources(uint32_t vl, uint32_t upper)
+{
+    set_up_wide(vl, 0xFF);
+    check(step_wide(0x0E208000) == 0 && leaves(0, 0) && counted_wide(0, vl), "destination as both sources: all falls");
+    set_up_wide(vl, 0xFF);
+    check(step_wide(0x0E208020) == 0 && leaves(0, 0) && counted_wide(0, vl), "destination as second source");
+    set_up_wide(vl, 0xFF);
+    check(step_wide(0x0E218000) == 0 && leaves(0, 0) && counted_wide(0, vl), "destination as first source");
+    set_up_wide(vl, 0xFF);
+    check(step_wide(0x2E208000) == 0 && leaves(0, 0xFE00) && counted_wide(0, 8 * 9 + 8 * upper), "unsigned");
+    set_up_wide(vl, 0xFF);
+    memset(wide_register(0), 0, 8);
+    memset(wide_register(0) + 8, 1, 8);
+    check(step_wide(0x4E208000) == 0 && counted_wide(8, 4 + 8 * upper), "the upper half of a V register as source");
+    check(little(wide.z + 6, 2) == 1 && little(wide.z + 8, 2) == 0x0102 && wide.z[16] == 0, "its lanes");
+}
+
+/* A with lane 16: 01010101 less 0101 squared is 00FFFF00; of its 16 ones 14 have risen, and 2 bits have fallen. With lane
+ * 32 the word has register 31, where Z ends, as destination and sources: 0101010101010101 less 0001020304030201 is
+ * 00FFFEFDFCFDFF00; 39 bits have risen and 4 fallen. */
+static void upper_of_a(uint32_t vl, uint32_t upper)
+{
+    static const uint8_t lane64[] = {0x00, 0xFF, 0xFD, 0xFC, 0xFD, 0xFE, 0xFF, 0x00};
+    set_up_wide(vl, 1);
+    check(step_wide(0x2F726820) == 0 && counted_wide(4 * 14, 4 * 2 + upper), "A, lane 16, wide");
+    for (int e = 0; e < 4; e++)
+        check(little(wide.z + 4 * e, 4) == 0x00FFFF00, "A, lane 16, wide: a lane");
+    check(ones_in(wide.z + 16, upper) == 0 && wide.z[vl / 8] == 1, "A, lane 16, wide: the rest, and what follows");
+    set_up_wide(vl, 1);
+    check(step_wide(0x2FBF6BFF) == 0 && counted_wide(2 * 39, 2 * 4 + upper), "A, lane 32, wide, at the end of Z");
+    const uint8_t *d = wide_register(31);
+    check(memcmp(d, lane64, 8) == 0 && memcmp(d + 8, lane64, 8) == 0, "A, lane 32, wide: the lanes");
+    check(ones_in(d + 16, upper) == 0 && d[-1] == 1, "A, lane 32, wide: the rest, and what is before");
+    check(memcmp(wide.z, was.z, 31 * (vl / 8)) == 0, "A, lane 32, wide: the other registers");
+}
+
+/* A word that is refused clears nothing, and words of C, D and E clear nothing of Z. C writes each byte of its register:
+ * 2 times 0101 squared is 00020402, so that each element becomes 01030503. */
+static void upper_elsewhere(uint32_t vl)
+{
+    set_up_wide(vl, 1);
+    wide.s.modes = 3;
+    check(step_wide(0x0E228020) == 4 && memcmp(&wide.z, &was.z, sizeof wide.z) == 0, "refused: nothing is cleared");
+    check(step_wide(0xC1A20008) == 0 && memcmp(&wide.z, &was.z, sizeof wide.z) == 0, "D clears nothing of Z");
+    check(step_wide(0xC1E20800) == 0 && memcmp(&wide.z, &was.z, sizeof wide.z) == 0, "E clears nothing of Z");
+    check(step_wide(0x44BA2820) == 0 && wide.c.written == vl, "C, wide");
+    for (uint32_t e = 0; e < vl / 32; e++)
+        check(little(wide.z + 4 * e, 4) == 0x01030503, "C, wide: an element");
+}
+
+static void upper_parts(void)
+{
+    static const uint32_t uppers[3] = {0, 16, 48};
+    for (int v = 1; v < 3; v++) {
+        upper_of_p1(vls[v], uppers[v]);
+        upper_alone(vls[v], uppers[v]);
+        upper_of_sources(vls[v], uppers[v]);
+        upper_of_a(vls[v], uppers[v]);
+        upper_elsewhere(vls[v]);
+    }
+}
+
 static void rows_of_c(void)
 {
     struct second_fields f;
@@ -185,6 +353,7 @@ static void put_head(uint32_t vl, uint32_t features, uint32_t modes)
         put_number(&list, 0);
 }
 
+/* The Z bytes of VL 128. */
 static void put_z(void)
 {
     memset(list.bytes + list.length, 1, 512);
@@ -377,6 +546,27 @@ static void reports(void)
             "its lines have toggled");
 }
 
+/* A list at VL 256, all bytes of Z 01. The first word clears 16 bits of register 0. Then 0102 becomes 0103, and the upper
+ * part is clear. The word of C adds 00020402 to each 32-bit element, so that the low ones go from 01030103 to 01050505,
+ * and the upper ones from 0: 3 bits rise and 2 fall in each low one, and 3 rise in each upper one. These 12 the next
+ * word of B clears, while 0505 becomes 0506 and 0105 becomes 0106. Its partner brings back 0505 and 0105. */
+static void wide_report(void)
+{
+    static const uint32_t words[] = {0x0E228020, 0x0E228020, 0x44BA2820, 0x0E228020, 0x0E22A020};
+    static const uint32_t due[] = {0, 8, 24, 256, 0, 8, 0, 256, 0, 24, 8, 256, 0, 8, 20, 256, 0, 8, 8, 256};
+    put_head(256, 3, 0);
+    put_z();
+    put_z();
+    put_number(&list, 5);
+    for (int i = 0; i < 5; i++)
+        put_number(&list, words[i]);
+    check(run(list.length, 1024, 1024, 20).refusal == 0 && report_is(due, 5), "a report at VL 256");
+    check(little(left.z, 4) == 0x01050505 && ones_in(left.z + 16, 16) == 0 && left.z[32] == 1, "what it leaves");
+    printed("words 5\n1 0E228020 32 256 12\n2 0E228020 8 256 3\n3 44BA2820 32 256 12\n4 0E228020 28 256 10\n"
+            "5 0E22A020 16 256 6\ntotal 116 1280 9\n",
+            "its lines");
+}
+
 static void numbers(void)
 {
     memset(list.bytes, 0x80, 8);
@@ -567,8 +757,32 @@ static void every_word(void)
     check(back == accepted, "encode undoes decode for all of them");
 }
 
-/* Random words there and their partners back. The last two show that the check can fail: a word that names its
- * destination as a source spoils the source for its partner, and a word of C has no partner. */
+static unsigned open_sweeps;
+
+static void look_at_open(const struct sweep *w)
+{
+    open_sweeps++;
+    check(leads_back_open(w), "there and back to all but what was cleared");
+    check(!leads_back(w), "an open sweep does not lead back");
+}
+
+/* One bit above a V register is enough, whichever it is, where its register is the destination: a source may have any. */
+static void open_by_one_register(void)
+{
+    struct sweep w = choose_sweep(256, A_AND_B, 1);
+    w.words[0] = 0x0E228020;
+    for (uint32_t r = 0; r < 3; r++) {
+        w.clear = 7 & ~(1u << r);
+        check(leads_back(&w) == (r != 0), "a destination that is not clear, a source that is not");
+        check(leads_back_open(&w) == (r == 0), "the same, as an open sweep");
+    }
+    w.s.vl = 128;
+    check(leads_back(&w), "at VL 128 nothing lies above");
+}
+
+/* Random words there and their partners back. The last show that the check can fail: a word that names its destination
+ * as a source spoils the source for its partner, a word of C has no partner, and what a word clears does not come back.
+ * Words of D and E clear nothing, whatever Z holds. */
 static void round_trips(void)
 {
     start_choosing(20010902);
@@ -576,6 +790,10 @@ static void round_trips(void)
         for (int v = 0; v < 3; v++) {
             struct sweep w = choose_sweep(vls[v], (enum mix)mix, 100);
             check(leads_back(&w), "there and back");
+            check((w.clear == 0) == (mix >= ONLY_D_8), "registers are clear for A and B alone");
+            w.clear = 0;
+            w.z_kind = 1;
+            check(leads_back(&w) == (v == 0 || mix >= ONLY_D_8), "there and back, with ones above each V register");
         }
     struct sweep w = choose_sweep(128, A_AND_B, 10);
     w.words[4] = 0x0E218020;
@@ -585,10 +803,13 @@ static void round_trips(void)
     w.s.features = 31;
     w.words[4] = 0x44BA3820;
     check(!leads_back(&w), "a word of C");
+    open_by_one_register();
+    make_open_sweeps(20010902, look_at_open);
+    check(open_sweeps == 8, "open sweeps: how many");
 }
 
 /* How many cases there are with each answer of execute, and a checksum of all answers: FNV-1a of 32 bits. */
-static unsigned answered[5];
+static unsigned answered[5], clearing;
 static uint32_t answers = 2166136261u;
 
 static void add_bytes(const uint8_t *bytes, size_t length)
@@ -609,8 +830,10 @@ static void answer_case(const struct one_case *c)
     struct second_counts counts;
     fill(z, c->z.length, c->z.kind, c->z.seed);
     fill(za, c->za.length, c->za.kind, c->za.seed);
+    uint32_t cleared = c->z.length == second_z_length(c->s.vl) ? ones_to_clear(&c->s, c->word, z) : 0;
     int refusal = execute(&c->s, c->word, z, c->z.length, za, c->za.length, &counts);
     answered[refusal]++;
+    clearing += refusal == 0 && cleared > 0;
     add_number((uint32_t)refusal);
     add_number(counts.rises + counts.falls);
     add_number(counts.written);
@@ -626,9 +849,10 @@ static void made_cases(void)
         all += answered[i];
         check(answered[i] > 20, "made cases: each answer");
     }
-    check(all == 1420, "made cases: how many");
+    check(all == 1500, "made cases: how many");
+    check(clearing > 250, "made cases: words that clear something");
     /* This number changes only where the answers, or the cases, are meant to change. */
-    check(answers == 0xF69A5768, "made cases: the same answers as ever");
+    check(answers == 0x649E7E1F, "made cases: the same answers as ever");
 }
 
 /* The lists that `second lists` makes */
@@ -1013,10 +1237,12 @@ static void spellings(void)
 int selftest_command(void)
 {
     rows_of_ab();
+    upper_parts();
     rows_of_c();
     rows_of_de();
     lists();
     reports();
+    wide_report();
     numbers();
     list_settings();
     list_words();

@@ -67,6 +67,8 @@ struct sweep choose_sweep(uint32_t vl, enum mix mix, uint32_t count)
     for (uint32_t i = 0; i < count; i++) {
         f = choose_fields(mix, &f);
         sweep.words[i] = word_of(&f);
+        if (f.family <= SECOND_FAMILY_B)
+            sweep.clear |= 1u << f.destination;
     }
     return sweep;
 }
@@ -76,6 +78,55 @@ struct sweep choose_sweep(uint32_t vl, enum mix mix, uint32_t count)
 struct registers {
     uint8_t z[SECOND_MOST_Z], za[SECOND_MOST_ZA];
 };
+
+/* What a word of A or B sets to zero, of the register that it writes. */
+static size_t upper_start(uint32_t vl, uint32_t r)
+{
+    return r * (vl / 8) + 16;
+}
+
+static size_t upper_length(uint32_t vl)
+{
+    return vl / 8 - 16;
+}
+
+static void clear_upper(uint8_t *z, uint32_t vl, uint32_t r)
+{
+    memset(z + upper_start(vl, r), 0, upper_length(vl));
+}
+
+/* Whether the word is of A or B, and which register it writes. */
+static int writes_v(const struct second_settings *s, uint32_t word, uint32_t *destination)
+{
+    struct second_fields f;
+    int is_word = second_decode(s, word, &f) == SECOND_ACCEPTED;
+    *destination = f.destination;
+    return is_word && f.family <= SECOND_FAMILY_B;
+}
+
+void start_sweep(const struct sweep *sweep, uint8_t *z, uint8_t *za)
+{
+    uint32_t vl = sweep->s.vl;
+    fill(z, second_z_length(vl), sweep->z_kind, sweep->z_seed);
+    fill(za, second_za_length(vl), sweep->za_kind, sweep->za_seed);
+    for (uint32_t r = 0; r < 32; r++)
+        if ((sweep->clear >> r & 1) != 0)
+            clear_upper(z, vl, r);
+}
+
+void close_sweep(const struct sweep *sweep, uint8_t *z)
+{
+    uint32_t r;
+    for (uint32_t i = 0; i < sweep->count; i++)
+        if (writes_v(&sweep->s, sweep->words[i], &r))
+            clear_upper(z, sweep->s.vl, r);
+}
+
+uint32_t ones_to_clear(const struct second_settings *s, uint32_t word, const uint8_t *z)
+{
+    uint32_t r;
+    return writes_v(s, word, &r) ? ones_in(z + upper_start(s->vl, r), upper_length(s->vl)) : 0;
+}
 
 /* Whether the word is accepted, and the ones that it leaves are those that its counts say. */
 static int steps(const struct sweep *sweep, uint32_t word, struct registers *r, struct second_counts *c)
@@ -93,28 +144,52 @@ static int steps_back(const struct sweep *sweep, uint32_t word, struct registers
     return second_partner(&sweep->s, word, &partner) == SECOND_ACCEPTED && steps(sweep, partner, r, c);
 }
 
-static int are_turned(const struct second_counts *there, const struct second_counts *back)
+/* Of the word's falls those that it has cleared are left out. */
+static int are_turned(const struct second_counts *there, uint32_t cleared, const struct second_counts *back)
 {
-    return back->rises == there->falls && back->falls == there->rises && back->written == there->written;
+    return back->rises == there->falls - cleared && back->falls == there->rises && back->written == there->written;
 }
 
+/* Goes there and back from the start, and leaves where that leads. */
+static int goes(const struct sweep *sweep, struct registers *now)
+{
+    static struct second_counts there[MOST_SWEPT];
+    static uint32_t cleared[MOST_SWEPT];
+    for (uint32_t i = 0; i < sweep->count; i++) {
+        cleared[i] = ones_to_clear(&sweep->s, sweep->words[i], now->z);
+        if (!steps(sweep, sweep->words[i], now, &there[i]))
+            return 0;
+    }
+    for (uint32_t i = sweep->count; i-- > 0;) {
+        struct second_counts back;
+        if (!steps_back(sweep, sweep->words[i], now, &back) || !are_turned(&there[i], cleared[i], &back))
+            return 0;
+    }
+    return 1;
+}
+
+static int are_alike(const struct sweep *sweep, const struct registers *x, const struct registers *y)
+{
+    return memcmp(x->z, y->z, second_z_length(sweep->s.vl)) == 0 &&
+           memcmp(x->za, y->za, second_za_length(sweep->s.vl)) == 0;
+}
+
+/* Where every byte comes back no word has cleared a one, so that each partner has just its word's counts. */
 int leads_back(const struct sweep *sweep)
 {
     static struct registers start, now;
-    static struct second_counts there[MOST_SWEPT];
-    size_t z = second_z_length(sweep->s.vl), za = second_za_length(sweep->s.vl);
-    fill(start.z, z, sweep->z_kind, sweep->z_seed);
-    fill(start.za, za, sweep->za_kind, sweep->za_seed);
+    start_sweep(sweep, start.z, start.za);
     now = start;
-    for (uint32_t i = 0; i < sweep->count; i++)
-        if (!steps(sweep, sweep->words[i], &now, &there[i]))
-            return 0;
-    for (uint32_t i = sweep->count; i-- > 0;) {
-        struct second_counts back;
-        if (!steps_back(sweep, sweep->words[i], &now, &back) || !are_turned(&there[i], &back))
-            return 0;
-    }
-    return memcmp(now.z, start.z, z) == 0 && memcmp(now.za, start.za, za) == 0;
+    return goes(sweep, &now) && are_alike(sweep, &now, &start);
+}
+
+int leads_back_open(const struct sweep *sweep)
+{
+    static struct registers start, due, now;
+    start_sweep(sweep, start.z, start.za);
+    now = due = start;
+    close_sweep(sweep, due.z);
+    return goes(sweep, &now) && are_alike(sweep, &now, &due) && !are_alike(sweep, &now, &start);
 }
 
 /* Making */
@@ -145,6 +220,28 @@ void make_sweeps(uint32_t seed, take_sweep *take)
             struct sweep sweep = choose_sweep(vls[v], lengths[i].mix, lengths[i].count);
             sweep.z_kind = choose_kind(turn, 0);
             sweep.za_kind = choose_kind(turn + 1, 1);
+            take(&sweep);
+        }
+}
+
+/* The first word's destination is not clear, and of the others about half. Z is random or of one extreme, so that there
+ * are ones in each register that is not clear. */
+void make_open_sweeps(uint32_t seed, take_sweep *take)
+{
+    static const struct {
+        enum mix mix;
+        uint32_t count;
+    } lengths[] = {{ONLY_A, 20}, {ONLY_B, 30}, {A_AND_B, 60}, {A_AND_B, 1}};
+    uint32_t turn = 0, first;
+    start_choosing(seed);
+    for (uint32_t v = 1; v < 3; v++)
+        for (size_t i = 0; i < sizeof lengths / sizeof *lengths; i++, turn++) {
+            struct sweep sweep = choose_sweep(vls[v], lengths[i].mix, lengths[i].count);
+            sweep.z_kind = turn % 2 == 0 ? FILL_RANDOM : 1 + choose(3);
+            sweep.za_kind = FILL_MIXED;
+            sweep.clear &= choose_any();
+            if (writes_v(&sweep.s, sweep.words[0], &first))
+                sweep.clear &= ~(1u << first);
             take(&sweep);
         }
 }
