@@ -171,10 +171,10 @@ uint64_t callinglamp_decode(const uint32_t settings[7], uint32_t word, uint32_t 
  * included; 3 where the settings lack a feature. */
 uint64_t callinglamp_encode(const uint32_t settings[7], const uint32_t fields[12]);
 
-/* The word with S flipped: the same word, but that it subtracts where the other adds. It is the answer's value. Run next,
- * it leads back to where its word began, with the word's rises as falls and its falls as rises. Of a word of A or B that
- * is so where its destination is no source of it, and has zeros from byte 16 on before the word: what a word clears there
- * no partner brings back.
+/* The word with S flipped: the same word, but that it subtracts where the other adds. It is the answer's value.
+ * Run next, it leads back to where its word began, with the word's rises as falls and its falls as rises. For a word of
+ * A or B that holds where its destination is no source of it and has zeros from byte 16 on before the word runs: what a
+ * word clears there no partner brings back.
  *   settings  as above
  *   word      any number: the word
  * Refused with 1; 3 as in decode; 6 where the word is of family C. */
@@ -194,9 +194,9 @@ enum { CALLINGLAMP_COUNTS = 3 };
  *   z, z_length    Z: 32 registers of VL/8 bytes, 32 * VL/8 bytes in all
  *   za, za_length  ZA: VL/8 vectors of VL/8 bytes
  *   counts         accepted: as above
- * A word of A or B writes a V register, the low 16 bytes of its Z register, and sets the rest of the Z register to zero,
- * as Arm's manual says. The bits that this clears are falls. At VL 128 there is no rest. Its sources are read first, and
- * of them nothing but the low 16 bytes.
+ * A word of A or B writes a V register, the low 16 bytes of its Z register, and sets the rest of the Z register to
+ * zero, as Arm's manual says. The bits that this clears are falls. At VL 128 there is no rest. Its sources are read
+ * first, and of them nothing but the low 16 bytes.
  * Refused with 1; 2 where a length is not exact, whatever the family; 3 as in decode; 4 where the modes do not permit
  * the family: A and B need SM off, C needs SM on or SVE2, D and E need SM and ZA on. */
 uint64_t callinglamp_execute(const uint32_t settings[7], uint32_t word, uint8_t *z, size_t z_length, uint8_t *za,
