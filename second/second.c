@@ -326,8 +326,8 @@ static inline void half_step(const struct second_fields *f, const uint8_t *n, co
     }
 }
 
-/* A write of a V register, the low 16 bytes, sets the rest of the Z register to zero: the new register is zero above the
- * lanes, and the whole of it is put in place and counted. */
+/* A write of a V register, the low 16 bytes, sets the rest of the Z register to zero: the new register is zero above
+ * the lanes, and the whole of it is put in place and counted. */
 static struct toggles execute_ab(const struct second_settings *s, const struct second_fields *f, uint8_t *z)
 {
     size_t bytes = s->vl / 8;

@@ -242,8 +242,8 @@ static void upper_of_sources(uint32_t vl, uint32_t upper)
     check(little(wide.z + 6, 2) == 1 && little(wide.z + 8, 2) == 0x0102 && wide.z[16] == 0, "its lanes");
 }
 
-/* A with lane 16: 01010101 less 0101 squared is 00FFFF00; of its 16 ones 14 have risen, and 2 bits have fallen. With lane
- * 32 the word has register 31, where Z ends, as destination and sources: 0101010101010101 less 0001020304030201 is
+/* A with lane 16: 01010101 less 0101 squared is 00FFFF00; of its 16 ones 14 have risen, and 2 bits have fallen. With
+ * lane 32 the word has register 31, where Z ends, as destination and sources: 0101010101010101 less 0001020304030201 is
  * 00FFFEFDFCFDFF00; 39 bits have risen and 4 fallen. */
 static void upper_of_a(uint32_t vl, uint32_t upper)
 {
@@ -261,8 +261,8 @@ static void upper_of_a(uint32_t vl, uint32_t upper)
     check(memcmp(wide.z, was.z, 31 * (vl / 8)) == 0, "A, lane 32, wide: the other registers");
 }
 
-/* A word that is refused clears nothing, and words of C, D and E clear nothing of Z. C writes each byte of its register:
- * 2 times 0101 squared is 00020402, so that each element becomes 01030503. */
+/* A word that is refused clears nothing, and words of C, D and E clear nothing of Z. C writes each byte of its
+ * register: 2 times 0101 squared is 00020402, so that each element becomes 01030503. */
 static void upper_elsewhere(uint32_t vl)
 {
     set_up_wide(vl, 1);
@@ -546,10 +546,10 @@ static void reports(void)
             "its lines have toggled");
 }
 
-/* A list at VL 256, all bytes of Z 01. The first word clears 16 bits of register 0. Then 0102 becomes 0103, and the upper
- * part is clear. The word of C adds 00020402 to each 32-bit element, so that the low ones go from 01030103 to 01050505,
- * and the upper ones from 0: 3 bits rise and 2 fall in each low one, and 3 rise in each upper one. These 12 the next
- * word of B clears, while 0505 becomes 0506 and 0105 becomes 0106. Its partner brings back 0505 and 0105. */
+/* A list at VL 256, all bytes of Z 01. The first word clears 16 bits of register 0. Then 0102 becomes 0103, and the
+ * upper part is clear. The word of C adds 00020402 to each 32-bit element, so that the low ones go from 01030103 to
+ * 01050505, and the upper ones from 0: 3 bits rise and 2 fall in each low one, and 3 rise in each upper one. These 12
+ * the next word of B clears, while 0505 becomes 0506 and 0105 becomes 0106. Its partner brings back 0505 and 0105. */
 static void wide_report(void)
 {
     static const uint32_t words[] = {0x0E228020, 0x0E228020, 0x44BA2820, 0x0E228020, 0x0E22A020};
@@ -766,7 +766,7 @@ static void look_at_open(const struct sweep *w)
     check(!leads_back(w), "an open sweep does not lead back");
 }
 
-/* One bit above a V register is enough, whichever it is, where its register is the destination: a source may have any. */
+/* Ones above a V register are in the way where it is the destination. A source may have any. */
 static void open_by_one_register(void)
 {
     struct sweep w = choose_sweep(256, A_AND_B, 1);
