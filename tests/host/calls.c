@@ -4,6 +4,7 @@
 #include "callinglamp.h"
 #include "choices.h"
 #include "judge.h"
+#include "upper.h"
 
 #include <string.h>
 
@@ -94,6 +95,7 @@ uint32_t compare_execute(struct execution *e)
                                       bytes_of(&za_room), e->za_length, numbers_of(&counts_room));
     judge(&call);
     weigh_execution(&call, &z_room, &za_room, numbers_of(&counts_room));
+    look_above(&call, e->s.vl, e->word, &z_room, numbers_of(&counts_room));
     take_back(e);
     return callinglamp_refusal(call.answer);
 }

@@ -24,7 +24,7 @@ struct execution {
     uint32_t counts[3]; /* rises, falls, written */
 };
 
-/* The refusal number, or 0. The balance is tested too. */
+/* The refusal number, or 0. The balance is tested too, and what A and B leave above a V register. */
 uint32_t compare_execute(struct execution *e);
 
 /* A print into a room of this length: 0 to MOST_SHORT. Beyond its text the room must stay, as beyond itself. */

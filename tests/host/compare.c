@@ -10,6 +10,7 @@
 #include "choices.h"
 #include "judge.h"
 #include "parts.h"
+#include "upper.h"
 
 #include <stdio.h>
 #include <stdlib.h>
@@ -50,6 +51,7 @@ int main(int argc, char **argv)
     enough &= compare_runs(seed);
     enough &= compare_texts();
     enough &= print_balance();
+    enough &= print_above();
     enough &= print_summary();
     if (!enough)
         return 1;
