@@ -1,7 +1,8 @@
 /* Runs words on an emulated Arm machine and in the second program, and compares.
  *
  * It is built for Arm and runs in the emulator, with the second program linked in. D and E need SME2: where the
- * emulator lacks it, they are skipped, and the tool says so. */
+ * emulator lacks it, they are skipped, and the tool says so. An older emulator does not clear what lies above a V
+ * register: there A and B are compared in the V register alone, and the tool says so too. */
 #define _GNU_SOURCE
 #include "../../second/second.h"
 
@@ -165,9 +166,12 @@ static void choose_w(uint32_t *w)
 
 static unsigned long steps, differences, saturated, changed, kept_above, cleared_above;
 
-/* Document 01 decides for itself what a V write does above the V register, so those bytes are only counted: kept as
- * they were, or cleared. They are then left out of the comparison. */
-static void set_above_aside(uint8_t *z, const uint8_t *before, uint32_t vl, uint32_t destination)
+/* Whether the emulator clears what lies above a V register, as Arm's manual says. */
+static int clears_above;
+
+/* What the machine did above a V register that was not all zero there is counted: kept as it was, or cleared. Where the
+ * emulator does not clear it, it cannot decide: then the bytes are taken to be what Arm's manual says. */
+static void look_above(uint8_t *z, const uint8_t *before, uint32_t vl, uint32_t destination)
 {
     static const uint8_t zeros[MOST_Z / 32];
     size_t above = vl / 8 - 16, at = destination * (vl / 8) + 16;
@@ -175,7 +179,8 @@ static void set_above_aside(uint8_t *z, const uint8_t *before, uint32_t vl, uint
         kept_above += memcmp(z + at, before + at, above) == 0;
         cleared_above += memcmp(z + at, zeros, above) == 0;
     }
-    memcpy(z + at, before + at, above);
+    if (!clears_above)
+        memset(z + at, 0, above);
 }
 
 static struct {
@@ -200,7 +205,7 @@ static void compare(struct second_settings *s, uint32_t word, const void *code, 
         step(machine.z, code);
     int refusal = second_execute(s, word, second.z, z_length, second.za, za_length, &counts);
     if (f.family <= SECOND_FAMILY_B)
-        set_above_aside(machine.z, before.z, s->vl, f.destination);
+        look_above(machine.z, before.z, s->vl, f.destination);
     steps++;
     changed += counts.rises + counts.falls != 0;
     uint32_t rises = rises_between(before.z, machine.z, z_length) + rises_between(before.za, machine.za, za_length);
@@ -221,6 +226,16 @@ static void compare(struct second_settings *s, uint32_t word, const void *code, 
     }
 }
 
+/* Each word, with a return behind it. */
+static void put_code(uint32_t *code, const uint32_t *given, uint32_t count)
+{
+    for (uint32_t i = 0; i < count; i++) {
+        code[2 * i] = given[i];
+        code[2 * i + 1] = RETURN;
+    }
+    __builtin___clear_cache((char *)code, (char *)(code + 2 * count));
+}
+
 /* All words are put in memory first: to write between steps would make the emulator translate anew each time. */
 static void run_family(uint32_t vl, uint32_t family, uint32_t times, uint32_t *code)
 {
@@ -231,11 +246,7 @@ static void run_family(uint32_t vl, uint32_t family, uint32_t times, uint32_t *c
         make_za_words(family, times);
     else
         make_words(family, times);
-    for (uint32_t i = 0; i < word_count; i++) {
-        code[2 * i] = words[i];
-        code[2 * i + 1] = RETURN;
-    }
-    __builtin___clear_cache((char *)code, (char *)(code + 2 * word_count));
+    put_code(code, words, word_count);
     for (uint32_t i = 0; i < word_count; i++)
         for (uint32_t kind = 0; kind < CONTENTS; kind++)
             compare(&s, words[i], code + 2 * i, kind);
@@ -255,6 +266,26 @@ static void set_vl(int call, uint32_t vl)
     }
 }
 
+/* A word of each lane of A and B, each into register 0, with all ones in Z. Of an emulator that does not clear in all
+ * of them nothing above a V register is believed. */
+static void probe_above(uint32_t *code)
+{
+    static const uint32_t probes[] = {0x2F726820, 0x2FB26820, 0x0E228020, 0x0E628020, 0x0EA28020};
+    static const uint8_t zeros[16];
+    enum { PROBES = sizeof probes / sizeof *probes };
+    int cleared = 0;
+    set_vl(PR_SVE_SET_VL, 256);
+    put_code(code, probes, PROBES);
+    for (int i = 0; i < PROBES; i++) {
+        memset(machine.z, 0xFF, second_z_length(256));
+        step(machine.z, code + 2 * i);
+        cleared += memcmp(machine.z + 16, zeros, sizeof zeros) == 0;
+    }
+    clears_above = cleared == PROBES;
+    printf("above a V register: this emulator clears in %d of %d words that were tried: A and B are compared in %s\n",
+           cleared, (int)PROBES, clears_above ? "all bytes" : "the V REGISTER ALONE");
+}
+
 int main(int argc, char **argv)
 {
     uint32_t times = argc > 1 ? (uint32_t)atoi(argv[1]) : 64;
@@ -263,6 +294,7 @@ int main(int argc, char **argv)
     int sme2 = (has >> HAS_SME2 & 1) != 0 && (has >> HAS_I16I64 & 1) != 0;
     if (code == MAP_FAILED)
         return 2;
+    probe_above(code);
     for (uint32_t vl = 128; vl <= 512; vl *= 2) {
         set_vl(PR_SVE_SET_VL, vl);
         run_family(vl, SECOND_FAMILY_A, times, code);
@@ -277,6 +309,7 @@ int main(int argc, char **argv)
     }
     if (!sme2)
         printf("D and E SKIPPED: this emulator lacks SME2 or its 16-bit lanes (I16I64)\n");
-    printf("%lu steps, %lu differences%s\n", steps, differences, sme2 ? "" : ", D and E skipped");
+    printf("%lu steps, %lu differences%s%s\n", steps, differences, sme2 ? "" : ", D and E skipped",
+           clears_above ? "" : ", nothing compared above a V register");
     return differences == 0 ? 0 : 1;
 }
