@@ -44,6 +44,8 @@ static void add_word_row(const char *name, const struct call *call)
     print_row_end(row);
 }
 
+/* Z starts at random. A word of A or B leaves zeros above its V register, so that from the second pass on it finds
+ * zeros there, as a user's does: to clear and to count costs the same. */
 static void add_execute_rows(void)
 {
     print_heads("execute, ns a word", "");

@@ -172,10 +172,10 @@ uint32_t bytes_moved(const struct kind *kind, uint32_t vl)
 {
     uint32_t vector = vl / 8, lane = kind->lane / 8;
     switch (kind->family) {
-    case SECOND_FAMILY_A: /* half of the first source, one element, the destination there and back */
-        return 8 + lane + 2 * 16;
+    case SECOND_FAMILY_A: /* half of a V register, one element, the destination there and back: its rest is cleared */
+        return 8 + lane + 2 * vector;
     case SECOND_FAMILY_B:
-        return 8 + 8 + 2 * 16;
+        return 8 + 8 + 2 * vector;
     case SECOND_FAMILY_C: /* every other element of the first source, one element for each 16 bytes of the second */
         return vector / 2 + vector / 16 * lane + 2 * vector;
     case SECOND_FAMILY_D: /* for each register of the group both sources, and four vectors there and back */

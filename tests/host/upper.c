@@ -39,8 +39,8 @@ void look_above(const struct call *call, uint32_t vl, uint32_t word, const struc
 int print_above(void)
 {
     unsigned long clear = words.with_upper - words.cleared;
-    printf("upper parts: %lu executions of A and B, %lu of them at VL 256 or 512; %lu of these cleared %llu bits, and %lu "
-           "found nothing to clear\n",
+    printf("upper parts: %lu executions of A and B, %lu of them at VL 256 or 512; %lu of these cleared %llu bits, and "
+           "%lu found nothing to clear\n",
            words.all, words.with_upper, words.cleared, words.bits, clear);
     int enough = words.cleared >= LEAST_CLEARED && clear >= LEAST_CLEAR;
     if (!enough)

@@ -455,8 +455,8 @@ RUNS = [
     (
         ["--vl", "512", "--features", "advsimd,sve2", "--seed", "1"]
         + ["--words", os.path.join(ROOT, "examples/words.txt")],
-        "words 6\n1 0E228020 53 128 41\n",
-        "\n6 44F124E6 255 512 49\ntotal 723 1536 47\n",
+        "words 6\n1 0E228020 242 512 47\n",
+        "\n6 44F124E6 255 512 49\ntotal 1131 3072 36\n",
         8,
     ),
     (
