@@ -1,7 +1,7 @@
 /* Callinglamp, for C and C++: the eight calls of the proved library, by numbers and bytes.
  *
- * `tools/build-c` proves the library, and lays it down with this header. "Document 01" is the paper that says what each
- * call answers, and the words below are its words.
+ * `tools/build-c` proves the library, and lays it down with this header. Document 01, and the requests of document 02
+ * that have landed, say what each call answers, and the words below are theirs.
  *
  * The families, what they need of the settings, and a word of each with its text:
  *     family  mnemonics                                          features          modes
