@@ -11,7 +11,8 @@ use lib.Pow.{shr-shr, field, mod-mod-pow}
 use lib.Bits.{differ}
 use lib.Dec.{lit<}
 use Rattle.laws.proofs.Bits.{one-bit, two-bits}
-use Rattle.elements.specs.Elements.{splice}
+use Rattle.elements.specs.Elements.{zeros, splice}
+use Rattle.elements.proofs.Elements.{length-zeros}
 use Rattle.elements.proofs.Files.{length-splice, take-splice, part-splice, drop-splice}
 use Rattle.bits.specs.Bits.{overBits, overBytes, rose, fell, rises, falls, toggled, onesOf, zerosOf}
 
@@ -106,7 +107,7 @@ module _ (f : ℕ → ℕ → ℕ) (same : Unmoved f) where
   bytes-same (x ∷ s) = rw (bits-same 8 x, bytes-same s)
 
   -- a splice changes the bits of its own bytes
-  bytes-splice : (at : ℕ) (x s : List ℕ) → at + length x ≤ length s
+  pub bytes-splice : (at : ℕ) (x s : List ℕ) → at + length x ≤ length s
       → overBytes f s (splice at x s) ≡ overBytes f (take (length x) (drop at s)) x
   bytes-splice at x s fit =
       bytes-parts f at (length x) s (splice at x s) (sym (length-splice at x s fit))
@@ -206,7 +207,25 @@ module _ (c : ℕ → ℕ) where
   bytes-first (x ∷ s) [] e = absurd (omega arith)
   bytes-first (x ∷ s) (y ∷ t) e = rw (bits-first 8 x y x, bytes-first s t (omega arith))
 
+-- ---- a test that does not count a bit that is 0 afterwards
+
+module _ (f : ℕ → ℕ → ℕ) (never : (x : ℕ) → x < 2 → f x 0 ≡ 0) where
+  pub bits-zeros : (k a : ℕ) → overBits f k a 0 ≡ 0
+  unfolding overBits
+  bits-zeros zero a = refl
+  bits-zeros (suc k) a = rw (never (a % 2) (two-lt a), bits-zeros k (a / 2))
+
+  bytes-zeros : (s : List ℕ) (n : ℕ) → overBytes f s (zeros n) ≡ 0
+  unfolding overBytes
+  bytes-zeros [] n = refl
+  bytes-zeros (x ∷ s) zero = refl
+  bytes-zeros (x ∷ s) (suc n) = rw (bits-zeros 8 x, bytes-zeros s n)
+
 -- ---- rises and falls
+
+-- nothing rises to 0
+pub rose-never : (x : ℕ) → x < 2 → rose x 0 ≡ 0
+rose-never = one-bit (λ x. rose x 0 ≡ 0) refl refl
 
 -- the bits that differ are those that rise and those that fall
 pub toggled-differs : (s t : List ℕ) → toggled s t ≡ overBytes differ s t
@@ -251,3 +270,13 @@ pub falls-le : (s t : List ℕ) → length s ≡ length t → falls s t ≤ ones
 falls-le s t e =
     rw (← bytes-first (λ x. x) s t e)
     (bytes-less fell (λ x y. x) (two-bits (λ x y. fell x y ≤ x) (omega arith) (omega arith) (omega arith) (omega arith)) s t)
+
+-- bytes that are cleared: none of their bits rises, and each 1 of them falls
+pub rises-zeros : (s : List ℕ) (n : ℕ) → rises s (zeros n) ≡ 0
+rises-zeros = bytes-zeros rose rose-never
+
+pub falls-zeros : (s : List ℕ) (n : ℕ) → length s ≡ n → falls s (zeros n) ≡ onesOf s
+falls-zeros s n e =
+    let no-ones : onesOf (zeros n) ≡ 0 =
+    bytes-turned (λ x y. x) (λ x y. y) (λ x y hx hy. refl) (zeros n) (zeros n) ∙ bytes-zeros (λ x y. y) (λ x h. refl) (zeros n) n in
+    omega (arith, no-ones, rises-zeros s n, balance s (zeros n) (e ∙ sym (length-zeros n)))

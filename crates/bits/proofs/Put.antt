@@ -1,19 +1,20 @@
--- The bits that change where an element is written, one turn of `replace`, and two words. Assumes nothing.
+-- The bits that change where an element is written, one turn of `replace` and of `clear`, two words, and two parts. Assumes nothing.
 use mathlib.Core.Path.{_≡_, refl, sym, ap, ap₂, _∙_}
-use mathlib.Core.List.{List}
+use mathlib.Core.List.{List, _++_}
 use Prim.Native.Nat.{ℕ, zero, suc, _+_, _*_, _/_, _%_, _^_, _≤_, _<_}
 use native.Mathlib.Nat.{add-zero, add-assoc, add-comm, mul-suc, mod-eq-of-lt, le-refl}
 use native.Mathlib.Omega.{arith}
-use lib.ListN.{length, getD}
+use lib.ListN.{length, getD, take, drop, length-append}
 use lib.Arith.{digits-div, digits-mod}
 use lib.Bits.{differ}
 use Rattle.elements.specs.Elements.{elementAt, element, putAt, splice}
 use Rattle.elements.proofs.Elements.{Bytes, pow256, elementAt-lt, elementAt-same, elementAt-put-after, length-put, put-after}
 use Rattle.elements.proofs.Vectors.{putEach, putEach-turn, putEach-after, putEach-splice, length-putEach, vector-own}
+use Rattle.elements.proofs.Files.{length-splice, drop-splice, splice-behind}
 use Rattle.bits.specs.Bits.{overBits, overBytes, rose, fell, rises, falls}
 use Rattle.bits.specs.Replace.{Replaced}
 use Rattle.bits.specs.declared.Toggles.{Toggles}
-use Rattle.bits.proofs.Bits.{Unmoved, differ-unmoved, rose-unmoved, fell-unmoved, differ-once, bits-split, bits-mod, bits-same, bytes-same, bytes-set, bytes-splice-le, toggled-differs}
+use Rattle.bits.proofs.Bits.{Unmoved, differ-unmoved, rose-unmoved, fell-unmoved, differ-once, bits-split, bits-mod, bits-same, bytes-same, bytes-set, bytes-splice-add, bytes-splice-le, toggled-differs}
 
 module _ (f : ℕ → ℕ → ℕ) where
   -- the bits of one byte more
@@ -110,3 +111,24 @@ both file₀ new at fit long by by′ before before′ after after′ r d file f
     λ f same. omega (arith, bytes-same f same file₀, T .counts f same, R .counts f same) in
     all file₀ new at room eights 16 r d file′ by′ refl (omega arith) (omega arith) (R .upto)
     (er ∙ counts rose rose-unmoved) (ed ∙ counts fell fell-unmoved)
+
+-- ---- two parts
+
+-- bytes that are replaced right behind others, after them
+pub behind : (at : ℕ) (t u : Toggles) (x y s s′ s″ : List ℕ) → at + length x + length y ≤ length s → Replaced at t x s s′ → Replaced (at + length x) u y s′ s″
+    → Replaced at (record { rises = t .rises + u .rises; falls = t .falls + u .falls }) (x ++ y) s s″
+behind at t u x y s s′ s″ fit p q =
+    let room : at + length x ≤ length s = omega arith in
+    let long : length s′ ≡ length s = rw (p .after) (length-splice at x s room) in
+    let agree : take (length y) (drop (at + length x) s′) ≡ take (length y) (drop (at + length x) s) =
+    ap (λ (l : List ℕ). take (length y) (drop (at + length x) l)) (p .after) ∙ ap (take (length y)) (drop-splice at x s room) in
+    let sum : (f : ℕ → ℕ → ℕ) → Unmoved f → overBytes f s s′ + overBytes f s′ s″ ≡ overBytes f s s″ =
+    λ f same. rw (q .after) (sym (bytes-splice-add f same (at + length x) y s s′ long fit agree)) in
+    record {
+      after = q .after ∙ ap (splice (at + length x) y) (p .after) ∙ splice-behind at x y s room;
+      bits =
+          ap₂ {A = ℕ} {B = ℕ} {C = Toggles} (λ r f. record { rises = r; falls = f })
+          (ap₂ _+_ (ap (λ (b : Toggles). b .rises) (p .bits)) (ap (λ (b : Toggles). b .rises) (q .bits)) ∙ sum rose rose-unmoved)
+          (ap₂ _+_ (ap (λ (b : Toggles). b .falls) (p .bits)) (ap (λ (b : Toggles). b .falls) (q .bits)) ∙ sum fell fell-unmoved);
+      few = omega (arith, p .few, q .few, length-append x y);
+    }

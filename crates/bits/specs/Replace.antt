@@ -3,7 +3,7 @@ use mathlib.Core.Path.{_≡_}
 use mathlib.Core.List.{List}
 use Prim.Native.Nat.{ℕ, _+_, _*_, _≤_}
 use lib.ListN.{length}
-use Rattle.elements.specs.Elements.{splice}
+use Rattle.elements.specs.Elements.{zeros, splice}
 use Rattle.bits.specs.Bits.{toggles}
 use Rattle.bits.specs.declared.Toggles.{Toggles}
 
@@ -12,3 +12,7 @@ pub record Replaced (at : ℕ) (r : Toggles) (new file file′ : List ℕ) : Typ
   pub after : file′ ≡ splice at new file
   pub bits : r ≡ toggles file file′
   pub few : r .rises + r .falls ≤ 8 * length new
+
+-- so many bytes of the file became zeros; r of its bits fell, and none rose
+abbrev pub Cleared : ℕ → ℕ → ℕ → List ℕ → List ℕ → Type 0
+Cleared at bytes r file file′ = Replaced at (record { rises = 0; falls = r }) (zeros bytes) file file′

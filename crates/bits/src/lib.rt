@@ -2,7 +2,7 @@ ghost use mathlib.Core.Path.{_≡_};
 ghost use Prim.Native.Nat.{_+_, _%_, _≤_};
 ghost use lib.ListN.{length};
 ghost use Rattle.bits.specs.Bits.{overBits, rose, fell};
-ghost use Rattle.bits.specs.Replace.{Replaced};
+ghost use Rattle.bits.specs.Replace.{Replaced, Cleared};
 
 // The bits that changed: those that rose, from 0 to 1, and those that fell. They have 64 bits, as the words that are counted, so that the compiler keeps
 // the two sums side by side.
@@ -47,4 +47,21 @@ pub fn replace(file: &mut [u8], at: usize, new: &[u8]) -> Toggles
         rises: rises,
         falls: falls,
     }
+}
+
+// The bytes of the file from a place on become zeros. Answers how many bits fell: none rises. It goes by eight bytes, as `replace` does.
+pub fn clear(file: &mut [u8], at: usize, bytes: usize) -> u64
+    requires { ⌜ at + bytes ≤ length (now file) ⌝ }
+    requires { ⌜ (bytes % 8 ≡ 0) × (bytes ≤ 65536) ⌝ }
+    ensures { λ r. ⌜ Cleared at bytes r (now (file .entry)) (now (file .exit)) ⌝ }
+{
+    let mut falls: u64 = 0;
+    let mut o: usize = 0;
+    while o < bytes {
+        let before = elements::read8(file, at + o);
+        elements::put8(file, at + o, 0);
+        falls += fallen(before, 0);
+        o += 8;
+    }
+    falls
 }

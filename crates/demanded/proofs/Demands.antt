@@ -93,6 +93,7 @@ demand-2 =
       first-vector = execution.first-vector;
       vectors-exact = execution.writes-exactly;
       vectors-distinct = execution.vectors-distinct;
+      v-cleared = execution.cleared-above;
       z-stays = execution.z-stays;
       za-stays = execution.za-stays;
       lengths-stay = execution.lengths-kept;

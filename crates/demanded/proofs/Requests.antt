@@ -20,8 +20,9 @@ use Rattle.spelling.specs.Print.{printPaper}
 use Rattle.spelling.proofs.Theorems as texts
 use Rattle.spelling.proofs.Longest as longest
 use Rattle.demands.proofs.Execution as execution
+use Rattle.demands.proofs.Sweep as sweep
 use Rattle.demands.proofs.Balance as balance
-use Rattle.demanded.specs.Requests.{RequestOne, RequestTwo}
+use Rattle.demanded.specs.Requests.{RequestOne, RequestTwo, RequestThree}
 
 of-c1a20008 : (s : Settings) (f : Fields) → decodePaper s 0xC1A20008 ≡ (0, f)
     → spell false f ≡ text "smlsll za.s[w8, 0:3, vgx2], { z0.b-z1.b }, { z2.b-z3.b }"
@@ -61,3 +62,6 @@ request-two =
       falls-from-ones = balance.falls-from-ones;
       bits-are = balance.bits-are;
     }
+
+pub request-three : RequestThree
+request-three = record { cleared-fall = execution.cleared-counted; same-at-128 = execution.at-128; asked-at-128 = sweep.clear-at-128 }

@@ -22,7 +22,7 @@ use Rattle.spelling.specs.Language.{Reads}
 use Rattle.spelling.specs.declared.Printed.{Printed}
 use Rattle.spelling.specs.declared.WordRead.{WordRead}
 use Rattle.demands.specs.Execution.{LengthIsVL, AcceptedExactly, AlwaysInOrder, Always, KeepsIfRefused, SameLengths, StillBytes, CountsToggled, AtMostWritten, FewWritten}
-use Rattle.demands.specs.Execution.{Whenever, ElementsA, ElementsB, ElementsC, ElementsZa, WrittenIs, ZElsewhere, ElsewhereZa, WheneverZa, First, Distinct, Exact}
+use Rattle.demands.specs.Execution.{Whenever, ElementsA, ElementsB, ElementsC, ElementsZa, WrittenIs, WheneverV, ClearsAbove, ZElsewhere, ElsewhereZa, WheneverZa, First, Distinct, Exact}
 use Rattle.demands.specs.Sweep.{SweepCloses, UndoAccepts, PartnersAccepted}
 use Rattle.demands.specs.SweepExamples.{AllMet, EachNeeded}
 use Rattle.demands.specs.Calls.{CallersSee}
@@ -133,14 +133,16 @@ pub record Demand2 : Type 0 where
   -- "For r below group and i below k, vector first + r·stride + i of ZA": these vectors and no others, each once
   pub vectors-exact : WheneverZa (λ k s f z za o. Exact k s f)
   pub vectors-distinct : WheneverZa (λ k s f z za o. Distinct k s f)
-  -- "changes nothing else": the other bytes of Z, the other vectors of ZA, and the lengths; and bytes stay bytes
+  -- A, B: "writing a V register sets the rest of the Z register to zero" (document 02)
+  pub v-cleared : WheneverV ClearsAbove
+  -- "changes nothing else": the other registers of Z, the other vectors of ZA, and the lengths; and bytes stay bytes
   pub z-stays : ZElsewhere
   pub za-stays : WheneverZa ElsewhereZa
   pub lengths-stay : Always SameLengths
   pub bytes-stay : Always StillBytes
   -- "Toggled is the number of bits that differ in Z and ZA before and after"; of them some rise, and the others fall (RequestTwo)
   pub toggled-exact : Always CountsToggled
-  -- "Written is 128 in A and B, VL in C, VL·group·4 in D, VL·group·2 in E"; VL is the length of a register
+  -- "Their written count becomes VL", in A and B (document 02); "VL in C, VL·group·4 in D, VL·group·2 in E"; VL is the length of a register
   pub written-exact : WrittenIs
   pub length-is-vl : LengthIsVL
   pub toggled-at-most-written : Always AtMostWritten
@@ -151,7 +153,8 @@ pub record Demand2 : Type 0 where
 
 -- "Words accepted in their turn, none saturating, none that writes a vector register naming its destination as a source: from the end state each
 -- word's partner, in reverse order, is accepted, every byte returns, and each partner reports its word's counts": by document 02 "a partner's rises are
--- its word's falls, and the other way round"
+-- its word's falls, and the other way round", and there is a premise more (`ClearInTurn`): "before each A or B word runs, its destination has zeros
+-- from byte 16 on"
 pub record Demand3 : Type 0 where
   pub sweep-closes : SweepCloses
   -- "each word's partner .. is accepted": by `partner` and by `execute`

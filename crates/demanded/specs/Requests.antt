@@ -13,7 +13,8 @@ use Rattle.pieces.specs.Pieces.{text}
 use Rattle.spelling.specs.Spell.{spell}
 use Rattle.spelling.specs.Print.{printPaper}
 use Rattle.spelling.specs.Language.{Spells, Reads}
-use Rattle.demands.specs.Execution.{Always, CountsEach}
+use Rattle.demands.specs.Execution.{Always, CountsEach, WheneverV, CountsCleared, SameAt128}
+use Rattle.demands.specs.Sweep.{ClearAt128}
 use Rattle.demands.specs.Balance.{BitsAre, Balances, RisesFromZeros, FallsFromOnes, RunBalances, ListBalances}
 use Rattle.spelling.specs.Theorems.{OneReading, PrintAfterRead, ReadAfterPrint, NoLonger, OneAsLong}
 
@@ -55,3 +56,13 @@ pub record RequestTwo : Type 0 where
   pub rises-from-zeros : Always RisesFromZeros
   pub falls-from-ones : Always FallsFromOnes
   pub bits-are : BitsAre
+
+-- Three. "writing a V register sets the rest of the Z register to zero. Families A and B now do this. Their written count becomes VL" stands in Demand2
+-- (`v-cleared`, `written-exact`), and the premise that demand 3 gains in Demand3 (`sweep-closes`, `callers-see`, `premises-needed`)
+pub record RequestThree : Type 0 where
+  -- "cleared bits count as falls": each 1 above the V register, beside what rises and falls in it
+  pub cleared-fall : WheneverV CountsCleared
+  -- "At VL 128 nothing changes": neither the register nor written
+  pub same-at-128 : WheneverV SameAt128
+  -- nor what demand 3 asks
+  pub asked-at-128 : ClearAt128

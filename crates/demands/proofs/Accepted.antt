@@ -1,11 +1,12 @@
 -- The step of an accepted word, under each statement of specs/Execution.antt. Assumes nothing.
 use Prim.Native.Nat.{ℕ, _+_, _-_, _*_, _/_, _%_, _≤_, _<_}
-use native.Mathlib.Nat.{zero-add, zero-mul, mul-comm, mul-assoc, mod-lt}
+use native.Mathlib.Nat.{add-zero, zero-add, zero-mul, mul-comm, mul-assoc, mod-lt}
 use native.Mathlib.Omega.{arith}
 use mathlib.Core.Path.{_≡_, refl, sym, ap, _∙_}
-use mathlib.Core.Logic.{_⊎_, inl, inr}
+use mathlib.Core.Logic.{inl, inr}
 use mathlib.Core.List.{List}
-use lib.ListN.{getD}
+use lib.ListN.{length, length-drop}
+use lib.Seq.{take-all}
 use Rattle.settings.specs.Lengths.{VectorLength}
 use Rattle.settings.specs.Valid.{vectorBytes, arrayBytes}
 use Rattle.settings.specs.declared.Settings.{Settings}
@@ -14,22 +15,27 @@ use Rattle.words.specs.Ranges.{Ranges}
 use Rattle.words.specs.declared.Family.{Family}
 use Rattle.words.specs.declared.Family.the-variants.{ByElement, Vector, Saturating, LongLong, Long}
 use Rattle.words.specs.declared.Fields.{Fields}
-use Rattle.elements.specs.Elements.{elementOf}
+use Rattle.elements.specs.Elements.{zeros, elementOf}
+use Rattle.elements.proofs.Files.{room, length-vectorAt}
 use Rattle.lanes.specs.Lane.{step}
-use Rattle.bits.proofs.Bits.{rises-same, falls-same}
+use Rattle.bits.specs.Bits.{overBytes, rose, fell}
+use Rattle.bits.proofs.Bits.{Unmoved, rose-unmoved, fell-unmoved, bytes-same, rises-same, falls-same, rises-zeros, falls-zeros}
 use Rattle.recipes.specs.Recipe.{recipeOf, newLength, perSource}
 use Rattle.lanes.specs.Element.{newElement}
 use Rattle.recipes.proofs.Inside.{in-half}
 use Rattle.machine.specs.Step.{register, zAfter, stride, selected, firstVector, zaAfter}
 use Rattle.machine.specs.Execute.{stepped}
-use Rattle.machine.specs.Loop.{IntoZa}
-use Rattle.machine.proofs.Stepping.{steppedZ, steppedZa, written-z, written-za}
+use Rattle.machine.specs.Loop.{IntoV, IntoZa}
+use Rattle.machine.proofs.Renewal.{v-length}
+use Rattle.machine.proofs.Stepping.{v-into-z, steppedZ, steppedZa, written-z, written-za}
 use Rattle.machine.proofs.Grid.{rows-distinct, row-lt}
 use Rattle.machine.proofs.Array.{grid, first-multiple, passes}
 use Rattle.demands.specs.Execution.{VL, Accepted, KeepsIfRefused, SameLengths, StillBytes, CountsEach, AtMostWritten}
 use Rattle.demands.specs.Execution.{ElementsA, ElementsB, ElementsC, ElementsZa}
+use Rattle.demands.specs.Execution.{lowPart, upperPart, ClearsAbove, CountsCleared, SameAt128, ElsewhereZ}
 use Rattle.demands.specs.Execution.{zaVector, Among, First, Distinct, Exact}
-use Rattle.demands.proofs.Effects.{z-length, z-bytes, z-few, z-elsewhere, z-element, za-length, za-bytes, za-few, among, za-elsewhere, za-element}
+use Rattle.demands.proofs.Effects.{z-length, z-bytes, z-few, z-elsewhere, z-low, z-above, z-counts, z-element}
+use Rattle.demands.proofs.Effects.{za-length, za-bytes, za-few, among, za-elsewhere, za-element}
 use Rattle.demands.proofs.Outcomes.{accepted-ranges, by-step, stepped-number}
 
 -- ---- an accepted word
@@ -67,7 +73,7 @@ module _ (s : Settings) (w : ℕ) (f : Fields) (z za : List ℕ) (a : Accepted s
   pub step-few : AtMostWritten z za (stepped s f z za)
   step-few =
       by-step s f z za (AtMostWritten z za)
-      (λ i. rw (rises-same za, falls-same za, written-z s f (a .valid) i) (omega (arith, z-few s v f g z (a .z-exact))))
+      (λ i. rw (rises-same za, falls-same za, written-z s f i) (omega (arith, vector-bits s (a .valid), z-few s v f g z (a .z-exact))))
       (λ i.
       let k : ℕ = perSource (f .family) in
       let e : f .group * k * (8 * arrayBytes s) ≡ VL s * f .group * k =
@@ -111,12 +117,47 @@ module _ (s : Settings) (w : ℕ) (f : Fields) (z za : List ℕ) (a : Accepted s
   unfolding newElement step
   elements-e q r i e hr hi h = in-za Long q (inr q) r i hr hi e (rw array-bits h)
 
+  -- ---- the upper part of a V write
+
+  module _ (i : IntoV f) where
+    sixteen : newLength (f .family) (vectorBytes s) ≡ 16
+    sixteen = v-length f (vectorBytes s) i
+
+    pub clears-above : ClearsAbove s f z za (steppedZ s f z za)
+    clears-above = rw (← sixteen) (z-above s v f g z (a .z-exact))
+
+    -- the count of a test, of which ZA has none
+    in-parts : (t : ℕ → ℕ → ℕ) → Unmoved t
+        → overBytes t z (zAfter s f z) + overBytes t za za
+        ≡ overBytes t (lowPart s (f .destination) z) (lowPart s (f .destination) (zAfter s f z))
+        + overBytes t (upperPart s (f .destination) z) (zeros (vectorBytes s - 16))
+    in-parts t same = rw (bytes-same t same za, add-zero, ← sixteen) (z-counts s v f g z (a .z-exact) t same)
+
+    pub counts-cleared : CountsCleared s f z za (steppedZ s f z za)
+    counts-cleared =
+        let upper : List ℕ = upperPart s (f .destination) z in
+        let long : length upper ≡ vectorBytes s - 16 =
+        rw (length-drop, length-vectorAt (vectorBytes s) (f .destination) z (room (f .destination) 32 (vectorBytes s) z (a .z-exact) (g .destination))) in (
+          omega (arith, in-parts rose rose-unmoved, rises-zeros upper (vectorBytes s - 16)),
+          omega (arith, in-parts fell fell-unmoved, falls-zeros upper (vectorBytes s - 16) long),
+        )
+
+    pub same-at-128 : SameAt128 s f z za (steppedZ s f z za)
+    same-at-128 e =
+        let w : ℕ = vectorBytes s in
+        let all : w ≡ 16 = omega (arith, vector-bits s (a .valid)) in
+        let now : List ℕ = register s (zAfter s f z) (f .destination) in
+        let long : length now ≡ w =
+        length-vectorAt w (f .destination) (zAfter s f z)
+        (room (f .destination) 32 w (zAfter s f z) (z-length s v f g z (a .z-exact) ∙ a .z-exact) (g .destination)) in (
+          sym (take-all 16 now (omega arith)) ∙ rw (← sixteen) (z-low s v f g z (a .z-exact)),
+          written-z s f (v-into-z f i) ∙ e,
+        )
+
   -- ---- what is not new
 
-  pub out-z : (family : Family) → f .family ≡ family → (i : ℕ)
-      → (i < f .destination * vectorBytes s) ⊎ (f .destination * vectorBytes s + newLength family (vectorBytes s) ≤ i)
-      → getD (zAfter s f z) i 0 ≡ getD z i 0
-  out-z family q = rw (← q) (z-elsewhere s v f g z (a .z-exact))
+  pub out-z : ElsewhereZ s f z za (steppedZ s f z za)
+  out-z = (refl, z-elsewhere s v f g z (a .z-exact))
 
   pub out-za : (family : Family) → f .family ≡ family → IntoZa f → (u : ℕ) → u < arrayBytes s → (Among (perSource family) s f u → ⊥)
       → zaVector s (zaAfter s f z za) u ≡ zaVector s za u

@@ -89,11 +89,11 @@ all-known (r ∷ rs) (q ∷ qs) e = ap₂ _∷_ (said-known r q (head-eq-of-cons
 -- ---- the statement
 
 pub callers-see : CallersSee
-callers-see s ws z za z₁ za₁ z₂ za₂ rs qs bz bza forward done c p backward =
+callers-see s ws z za z₁ za₁ z₂ za₂ rs qs bz bza forward done c p h backward =
     let ran : there s ws z za ≡ record { z = z₁; za = za₁; reports = map said rs } = calls-run (executePaper s) (ExecutePromise s) (λ w z za r z′ za′ e. e) forward in
     let undone : runOf (undoPaper s) (reverse ws) z₁ za₁ ≡ record { z = z₂; za = za₂; reports = map said qs } =
     calls-run (undoPaper s) (UndoCalls s) (undo-says s) backward in
-    let closed = sweep-closes s ws z za bz bza (calls-accepted (executePaper s) (ExecutePromise s) (λ w z za r z′ za′ e. e) forward done) c p in
+    let closed = sweep-closes s ws z za bz bza (calls-accepted (executePaper s) (ExecutePromise s) (λ w z za r z′ za′ e. e) forward done) c p h in
     let same : _≡_ {A = Run} (record { z = z₂; za = za₂; reports = map said qs }) (record { z = z; za = za; reports = map said (reverse (map partnerAnswers rs)) }) =
     sym undone
     ∙ subst (λ (t : Run). runOf (undoPaper s) (reverse ws) (t .z) (t .za) ≡ record { z = z; za = za; reports = reverse (map ofPartner (t .reports)) }) ran closed

@@ -6,8 +6,8 @@ use mathlib.Core.Logic.{_⊎_, inl, inr, _≢_}
 use mathlib.Core.Bool.{true, cond}
 use mathlib.Core.List.{List, _++_}
 use lib.Dec.{eqb}
-use lib.ListN.{length, getD, drop}
-use lib.Seq.{take-at}
+use lib.ListN.{length, getD, take, drop, take-append-drop}
+use lib.Seq.{take-at, drop-at, length-take-le, getD-take, getD-drop}
 use lib.Bits.{differ}
 use borrow.Author.Tests.{eq-eqb, ne-eqb}
 use Rattle.laws.proofs.Tests.{failed}
@@ -16,12 +16,13 @@ use Rattle.settings.specs.Valid.{vectorBytes, arrayBytes}
 use Rattle.settings.specs.declared.Settings.{Settings}
 use Rattle.words.specs.Ranges.{Ranges}
 use Rattle.words.specs.declared.Fields.{Fields}
-use Rattle.elements.specs.Elements.{elementOf, splice}
-use Rattle.elements.proofs.Elements.{Bytes, elementAt-take, Bytes-splice}
-use Rattle.elements.proofs.Files.{next, room, length-splice, splice-before, splice-after}
+use Rattle.elements.specs.Elements.{zeros, elementOf, splice}
+use Rattle.elements.specs.Files.{vectorAt}
+use Rattle.elements.proofs.Elements.{Bytes, elementAt-take, Bytes-append, Bytes-splice, getD-zeros, Bytes-zeros}
+use Rattle.elements.proofs.Files.{next, room, length-vectorAt, length-splice, splice-before, splice-after}
 use Rattle.elements.proofs.Files.{vectorAt-renewed, length-replaced, Bytes-replaced}
-use Rattle.bits.specs.Bits.{toggled}
-use Rattle.bits.proofs.Bits.{differ-unmoved, differ-once, bytes-splice-le, toggled-differs}
+use Rattle.bits.specs.Bits.{overBytes, toggled}
+use Rattle.bits.proofs.Bits.{Unmoved, differ-unmoved, differ-once, bytes-append, bytes-splice, bytes-splice-le, toggled-differs}
 use Rattle.bits.proofs.Files.{bytes-replaced-le}
 use Rattle.recipes.specs.Recipe.{recipeOf, newLength, perSource}
 use Rattle.lanes.specs.Element.{newElement, newBytes}
@@ -36,6 +37,11 @@ use Rattle.demands.specs.Execution.{zaVector, Among}
 
 -- ---- Z
 
+-- byte i of a register is byte i from its start on in Z
+pub byte-of : (w d : ℕ) (z : List ℕ) (i : ℕ) → i < w → getD (vectorAt w d z) i 0 ≡ getD z (d * w + i) 0
+unfolding vectorAt
+byte-of w d z i h = getD-take w (drop (d * w) z) i 0 h ∙ getD-drop (d * w) z i 0
+
 module _ (s : Settings) (v : VectorLength (vectorBytes s)) (f : Fields) (g : Ranges f) (z : List ℕ) (z-long : length z ≡ 32 * vectorBytes s) where
   abbrev w : ℕ
   w = vectorBytes s
@@ -49,28 +55,36 @@ module _ (s : Settings) (v : VectorLength (vectorBytes s)) (f : Fields) (g : Ran
   abbrev at : ℕ
   at = f .destination * w
 
-  long : length x ≡ n
-  long = long-x s v f g z z-long
+  long : length (newRegister s f z) ≡ w
+  long = long-register s v f g z z-long
 
-  fit : at + length x ≤ length z
-  fit = omega (arith, long, new-length (f .family) w v .1, next (f .destination) w, room (f .destination) 32 w z z-long (g .destination))
+  fit : at + length (newRegister s f z) ≤ length z
+  fit = omega (arith, long, next (f .destination) w, room (f .destination) 32 w z z-long (g .destination))
 
   pub z-length : length (zAfter s f z) ≡ length z
-  z-length = rw (← register-is s v f g z z-long) (length-splice at x z fit)
+  z-length = rw (← register-is s v f g z z-long) (length-splice at (newRegister s f z) z fit)
+
+  new-bytes : Bytes (newRegister s f z)
+  unfolding newRegister
+  new-bytes = Bytes-append x (zeros (w - n)) (Bytes-newBytes (recipeOf (f .family) f 0) n _ _ _) (Bytes-zeros (w - n))
 
   pub z-bytes : Bytes z → Bytes (zAfter s f z)
-  z-bytes b = rw (← register-is s v f g z z-long) (Bytes-splice at x z (Bytes-newBytes (recipeOf (f .family) f 0) n _ _ _) b)
+  z-bytes b = rw (← register-is s v f g z z-long) (Bytes-splice at (newRegister s f z) z new-bytes b)
 
-  pub z-few : toggled z (zAfter s f z) ≤ 8 * newLength (f .family) (vectorBytes s)
+  pub z-few : toggled z (zAfter s f z) ≤ 8 * vectorBytes s
   z-few =
       rw (← register-is s v f g z z-long)
-      (omega (arith, long, toggled-differs z (splice at x z), bytes-splice-le differ differ-once differ-unmoved at x z fit))
+      (omega (
+        arith,
+        long,
+        toggled-differs z (splice at (newRegister s f z) z),
+        bytes-splice-le differ differ-once differ-unmoved at (newRegister s f z) z fit,
+      ))
 
-  -- the bytes outside the new ones
-  pub z-elsewhere : (i : ℕ) → (i < f .destination * vectorBytes s) ⊎ (f .destination * vectorBytes s + newLength (f .family) (vectorBytes s) ≤ i)
-      → getD (zAfter s f z) i 0 ≡ getD z i 0
-  z-elsewhere i (inl h) = rw (← register-is s v f g z z-long) (splice-before at x z fit i h)
-  z-elsewhere i (inr h) = rw (← register-is s v f g z z-long) (splice-after at x z fit i (omega (arith, long)))
+  -- the bytes outside the register
+  pub z-elsewhere : (i : ℕ) → (i < f .destination * vectorBytes s) ⊎ (f .destination * vectorBytes s + vectorBytes s ≤ i) → getD (zAfter s f z) i 0 ≡ getD z i 0
+  z-elsewhere i (inl h) = rw (← register-is s v f g z z-long) (splice-before at (newRegister s f z) z fit i h)
+  z-elsewhere i (inr h) = rw (← register-is s v f g z z-long) (splice-after at (newRegister s f z) z fit i (omega (arith, long)))
 
   -- register by register: the destination is new, and every other as it was
   each-z : (r : ℕ) → r < 32 → register s (zAfter s f z) r ≡ cond (eqb r (f .destination)) (newRegister s f z) (register s z r)
@@ -84,6 +98,48 @@ module _ (s : Settings) (v : VectorLength (vectorBytes s)) (f : Fields) (g : Ran
   pub z-same : (r : ℕ) → r < 32 → f .destination ≢ r → register s (zAfter s f z) r ≡ register s z r
   z-same r h apart = each-z r h ∙ rw (ne-eqb r (f .destination) (λ e. apart (sym e)))
 
+  -- the bytes that its elements fill, and those above them
+  long-elements : length x ≡ n
+  long-elements = long-x s v f g z z-long
+
+  pub z-low : take (newLength (f .family) (vectorBytes s)) (register s (zAfter s f z) (f .destination))
+      ≡ newBytes (recipeOf (f .family) f 0) (newLength (f .family) (vectorBytes s)) (register s z (f .destination)) (register s z (f .first)) (register s z (f .second))
+  unfolding newRegister
+  z-low = ap (take n) z-new ∙ take-at x (zeros (w - n)) n long-elements
+
+  z-high : drop n (register s (zAfter s f z) (f .destination)) ≡ zeros (w - n)
+  unfolding newRegister
+  z-high = ap (drop n) z-new ∙ drop-at x (zeros (w - n)) n long-elements
+
+  pub z-above : (i : ℕ) → newLength (f .family) (vectorBytes s) ≤ i → i < vectorBytes s → getD (zAfter s f z) (f .destination * vectorBytes s + i) 0 ≡ 0
+  z-above i l h =
+      let j : ℕ = i - n in
+      let e : n + j ≡ i = omega arith in
+      sym (byte-of w (f .destination) (zAfter s f z) i h)
+      ∙ ap (λ (k : ℕ). getD (register s (zAfter s f z) (f .destination)) k 0) (sym e)
+      ∙ sym (getD-drop n (register s (zAfter s f z) (f .destination)) j 0)
+      ∙ ap (λ (u : List ℕ). getD u j 0) z-high
+      ∙ getD-zeros (w - n) j
+
+  -- the count of a test: of the bytes that the elements fill, and of those above them, which become zeros
+  pub z-counts : (t : ℕ → ℕ → ℕ) → Unmoved t
+      → overBytes t z (zAfter s f z)
+      ≡ overBytes t (take (newLength (f .family) (vectorBytes s)) (register s z (f .destination)))
+      (take (newLength (f .family) (vectorBytes s)) (register s (zAfter s f z) (f .destination)))
+      + overBytes t (drop (newLength (f .family) (vectorBytes s)) (register s z (f .destination))) (zeros (vectorBytes s - newLength (f .family) (vectorBytes s)))
+  unfolding newRegister vectorAt
+  z-counts t same =
+      let old : List ℕ = register s z (f .destination) in
+      let short : length (take n old) ≡ length x =
+      length-take-le n old (omega (arith, length-vectorAt w (f .destination) z (room (f .destination) 32 w z z-long (g .destination)), new-length (f .family) w v .1))
+      ∙ sym long-elements in
+      ap (overBytes t z) (sym (register-is s v f g z z-long))
+      ∙ bytes-splice t same at (newRegister s f z) z fit
+      ∙ ap (λ (k : ℕ). overBytes t (take k (drop at z)) (newRegister s f z)) long
+      ∙ ap (λ (u : List ℕ). overBytes t u (newRegister s f z)) (sym (take-append-drop n old))
+      ∙ bytes-append t (take n old) x (drop n old) (zeros (w - n)) short
+      ∙ ap (λ (u : List ℕ). overBytes t (take n old) u + overBytes t (drop n old) (zeros (w - n))) (sym z-low)
+
   -- an element of the destination
   pub z-element : (e : ℕ) → e < 8 * newLength (f .family) (vectorBytes s) / recipeOf (f .family) f 0 .wide
       → elementOf (recipeOf (f .family) f 0 .wide) (register s (zAfter s f z) (f .destination)) e
@@ -91,10 +147,10 @@ module _ (s : Settings) (v : VectorLength (vectorBytes s)) (f : Fields) (g : Ran
   unfolding newRegister
   z-element e h =
       let b : ℕ = recipeOf (f .family) f 0 .wide in
-      let rest : List ℕ = drop n (register s z (f .destination)) in
+      let rest : List ℕ = zeros (w - n) in
       ap (λ (l : List ℕ). elementOf b l e) z-new
       ∙ sym (elementAt-take (b / 8) (e * (b / 8)) n (x ++ rest) (element-ends b (widths f g 0 .1 .0) n (new-length (f .family) w v .0) e h))
-      ∙ ap (λ (l : List ℕ). elementOf b l e) (take-at x rest n long)
+      ∙ ap (λ (l : List ℕ). elementOf b l e) (take-at x rest n long-elements)
       ∙ element-newBytes (recipeOf (f .family) f 0) n _ _ _ (widths f g 0 .1 .0) e h
 
 -- ---- ZA

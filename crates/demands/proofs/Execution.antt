@@ -5,7 +5,6 @@ use mathlib.Core.Path.{_≡_, refl, sym, ap, _∙_, subst}
 use mathlib.Core.Logic.{inl, inr, ⊎-elim, _≢_}
 use mathlib.Core.Bool.{cond}
 use mathlib.Core.List.{List}
-use Rattle.settings.specs.Valid.{vectorBytes}
 use Rattle.settings.specs.declared.Settings.{Settings}
 use Rattle.settings.proofs.Lengths.{vector-bits, same-length}
 use Rattle.words.specs.declared.Family.{Family}
@@ -15,16 +14,17 @@ use Rattle.bits.proofs.Bits.{rises-same, falls-same, toggled-differs}
 use Rattle.recipes.specs.Recipe.{perSource}
 use Rattle.machine.specs.Execute.{Outcome, executePaper, refusedWith, writesZa, stepped}
 use Rattle.machine.specs.Step.{zAfter, zaAfter}
-use Rattle.machine.specs.Loop.{IntoZa}
-use Rattle.machine.proofs.Stepping.{steppedTo}
+use Rattle.machine.specs.Loop.{IntoV, IntoZa}
+use Rattle.machine.proofs.Stepping.{steppedTo, steppedZ}
 use Rattle.machine.proofs.Small.{counts-small}
 use Rattle.demands.specs.Execution.{VL, LengthIsVL, Accepted, AcceptedSteps, AcceptedExactly, AlwaysInOrder}
 use Rattle.demands.specs.Execution.{Always, KeepsIfRefused, SameLengths, StillBytes, CountsEach, CountsToggled, AtMostWritten, FewWritten}
 use Rattle.demands.specs.Execution.{Whenever, ElementsA, ElementsB, ElementsC, ElementsZa, WrittenIs, ElsewhereZ, ZElsewhere, ElsewhereZa}
-use Rattle.demands.specs.Execution.{WheneverZa, First, Distinct, Exact}
+use Rattle.demands.specs.Execution.{WheneverV, ClearsAbove, CountsCleared, SameAt128, WheneverZa, First, Distinct, Exact}
 use Rattle.demands.proofs.Outcomes.{accepted, in-order, IsRefused, refused-or-accepted, stepped-number}
 use Rattle.demands.proofs.Accepted.{step-accepts, step-lengths, step-bytes, step-each, step-few}
-use Rattle.demands.proofs.Accepted.{elements-a, elements-b, elements-c, elements-d, elements-e, out-z, out-za, first, distinct, exact}
+use Rattle.demands.proofs.Accepted.{elements-a, elements-b, elements-c, elements-d, elements-e, clears-above, counts-cleared, same-at-128, out-z, out-za}
+use Rattle.demands.proofs.Accepted.{first, distinct, exact}
 
 -- ---- VL
 
@@ -106,8 +106,8 @@ whenever family P h s w f z za a e =
 pub written-is : WrittenIs
 written-is =
     record {
-      in-a = whenever ByElement (λ s f z za o. o .written ≡ 128) (λ s w f z za a e. rw e);
-      in-b = whenever Vector (λ s f z za o. o .written ≡ 128) (λ s w f z za a e. rw e);
+      in-a = whenever ByElement (λ s f z za o. o .written ≡ VL s) (λ s w f z za a e. rw e);
+      in-b = whenever Vector (λ s f z za o. o .written ≡ VL s) (λ s w f z za a e. rw e);
       in-c = whenever Saturating (λ s f z za o. o .written ≡ VL s) (λ s w f z za a e. rw e);
       in-d = whenever LongLong (λ s f z za o. o .written ≡ VL s * f .group * 4) (λ s w f z za a e. rw e);
       in-e = whenever Long (λ s f z za o. o .written ≡ VL s * f .group * 2) (λ s w f z za a e. rw e);
@@ -128,14 +128,30 @@ long-long-step = whenever LongLong (ElementsZa 4) elements-d
 pub long-step : Whenever Long (ElementsZa 2)
 long-step = whenever Long (ElementsZa 2) elements-e
 
+-- ---- the upper part of a V write
+
+-- what holds of the step in A and B
+whenever-v : (P : Settings → Fields → List ℕ → List ℕ → Outcome → Type 0)
+    → ((s : Settings) (w : ℕ) (f : Fields) (z za : List ℕ) → Accepted s w f z za → IntoV f → P s f z za (steppedZ s f z za)) → WheneverV P
+whenever-v P h = (whenever ByElement P (λ s w f z za a e. h s w f z za a (inl e)), whenever Vector P (λ s w f z za a e. h s w f z za a (inr e)))
+
+pub cleared-above : WheneverV ClearsAbove
+cleared-above = whenever-v ClearsAbove clears-above
+
+pub cleared-counted : WheneverV CountsCleared
+cleared-counted = whenever-v CountsCleared counts-cleared
+
+pub at-128 : WheneverV SameAt128
+at-128 = whenever-v SameAt128 same-at-128
+
 -- ---- everything else stays
 
 pub z-stays : ZElsewhere
 z-stays =
     record {
-      in-a = whenever ByElement (ElsewhereZ 16) (λ s w f z za a q. (refl, out-z s w f z za a ByElement q));
-      in-b = whenever Vector (ElsewhereZ 16) (λ s w f z za a q. (refl, out-z s w f z za a Vector q));
-      in-c = whenever Saturating (λ s. ElsewhereZ (vectorBytes s) s) (λ s w f z za a q. (refl, out-z s w f z za a Saturating q));
+      in-a = whenever ByElement ElsewhereZ (λ s w f z za a q. out-z s w f z za a);
+      in-b = whenever Vector ElsewhereZ (λ s w f z za a q. out-z s w f z za a);
+      in-c = whenever Saturating ElsewhereZ (λ s w f z za a q. out-z s w f z za a);
     }
 
 pub za-stays : WheneverZa ElsewhereZa

@@ -1,5 +1,6 @@
 -- Demand 3: a run of words is undone by their partners in reverse order. Assumes nothing.
-use Prim.Native.Nat.{ℕ}
+use Prim.Native.Nat.{ℕ, _+_, _*_, _/_, _≤_, _<_}
+use native.Mathlib.Omega.{arith}
 use mathlib.Core.Path.{_≡_, refl, sym, ap, _∙_, subst}
 use mathlib.Core.Bool.{Bool, false, cond}
 use mathlib.Core.Logic.{_≢_}
@@ -8,16 +9,20 @@ use lib.Dec.{eqb}
 use borrow.Author.Tests.{eqb-true, eqb-false, eq-eqb}
 use Rattle.laws.specs.Lists.{Each}
 use Rattle.laws.proofs.Tests.{cond-ne, cond-holds}
+use Rattle.settings.specs.Valid.{vectorBytes}
 use Rattle.settings.specs.declared.Settings.{Settings}
 use Rattle.words.specs.Partner.{partnerWord, turned, isC, partnerPaper}
+use Rattle.words.specs.declared.Family.{Family}
+use Rattle.words.specs.declared.Family.the-variants.{ByElement, Vector, Saturating, LongLong, Long}
 use Rattle.words.specs.declared.Fields.{Fields}
 use Rattle.words.proofs.Answers.{not-c, partner-accepted, PartnerOf}
 use Rattle.elements.specs.Elements.{Bytes}
 use Rattle.machine.specs.Execute.{Outcome, refusedWith, stepped, executePaper}
 use Rattle.machine.specs.Run.{Report, reportOf, Run, PerWord, reportFirst, runOf}
-use Rattle.demands.specs.Execution.{Accepted}
+use Rattle.demands.specs.Execution.{VL, Accepted, ClearAbove}
 use Rattle.demands.specs.Sweep.{there, undoPaper}
 use Rattle.demands.specs.Sweep.{AcceptedInTurn, NotSaturating, SourcesApart, NotItsOwnSource, ofPartner, SweepCloses}
+use Rattle.demands.specs.Sweep.{ClearIfV, DestinationClear, ClearInTurn, ClearAt128}
 use Rattle.demands.specs.Sweep.{BothAccept, UndoAccepts, PartnersAccepted}
 use Rattle.demands.proofs.Execution.{accepted-exactly, accepted-steps, lengths-kept, bytes-kept}
 use Rattle.demands.proofs.Undoing.{undoneFrom, step-back}
@@ -55,41 +60,58 @@ module _ (s : Settings) (w : ℕ) (z za : List ℕ) where
       }
 
   -- the step back finds what the word left
-  undone : (f : Fields) → Accepted s w f z za → Bytes z → Bytes za → isC (f .family) ≡ false → SourcesApart (f .family) f
+  undone : (f : Fields) → Accepted s w f z za → Bytes z → Bytes za → isC (f .family) ≡ false → SourcesApart (f .family) f → ClearIfV (f .family) s f z
       → undoPaper s w (executePaper s w z za .z) (executePaper s w z za .za) ≡ undoneFrom (executePaper s w z za) z za
   unfolding undoPaper
-  undone f a bz bza c p =
+  undone f a bz bza c p h =
       let q = partner-accepted s w f (a .decodes) c in
       rw (q .0)
       (accepted-steps s (partnerWord w) (turned f) (o .z) (o .za) (partner-in-turn f a (q .1))
-      ∙ subst (λ (x : Outcome). stepped s (turned f) (x .z) (x .za) ≡ undoneFrom x z za) (sym (accepted-steps s w f z za a)) (step-back s w f z za a bz bza c p))
+      ∙ subst (λ (x : Outcome). stepped s (turned f) (x .z) (x .za) ≡ undoneFrom x z za) (sym (accepted-steps s w f z za a)) (step-back s w f z za a bz bza c p h))
 
-  pub word-undone : Bytes z → Bytes za → executePaper s w z za .number ≡ 0 → NotSaturating s w → NotItsOwnSource s w
+  pub word-undone : Bytes z → Bytes za → executePaper s w z za .number ≡ 0 → NotSaturating s w → NotItsOwnSource s w → DestinationClear s w z
       → undoPaper s w (executePaper s w z za .z) (executePaper s w z za .za) ≡ undoneFrom (executePaper s w z za) z za
-  word-undone bz bza n c p =
+  word-undone bz bza n c p h =
       let (f, a) = accepted-exactly s w z za .0 n in
-      undone f a bz bza (not-c (f .family) .0 (c f (a .decodes))) (p f (a .decodes))
+      undone f a bz bza (not-c (f .family) .0 (c f (a .decodes))) (p f (a .decodes)) (h f (a .decodes))
 
 -- ---- the run
 
 -- the way back over the words so far, `acc`, goes on from where the words that are left begin
 way-back : (s : Settings) (ws acc z za z₀ za₀ : List ℕ) (before : List Report) → Bytes z → Bytes za
-    → AcceptedInTurn (executePaper s) ws z za → Each (NotSaturating s) ws → Each (NotItsOwnSource s) ws
+    → AcceptedInTurn (executePaper s) ws z za → Each (NotSaturating s) ws → Each (NotItsOwnSource s) ws → ClearInTurn s ws z za
     → runOf (undoPaper s) acc z za ≡ record { z = z₀; za = za₀; reports = before }
     → runOf (undoPaper s) (reverseAux ws acc) (there s ws z za .z) (there s ws z za .za)
     ≡ record { z = z₀; za = za₀; reports = reverseAux (map ofPartner (there s ws z za .reports)) before }
 unfolding runOf
-way-back s [] acc z za z₀ za₀ before bz bza a c p e = e
-way-back s (w ∷ ws) acc z za z₀ za₀ before bz bza a c p e =
+way-back s [] acc z za z₀ za₀ before bz bza a c p h e = e
+way-back s (w ∷ ws) acc z za z₀ za₀ before bz bza a c p h e =
     let o : Outcome = executePaper s w z za in
     let b = bytes-kept s w z za bz bza in
-    way-back s ws (w ∷ acc) (o .z) (o .za) z₀ za₀ (ofPartner (reportOf o) ∷ before) (b .0) (b .1) (a .1) (c .1) (p .1)
-    (ap (λ (u : Outcome). reportFirst u (runOf (undoPaper s) acc (u .z) (u .za))) (word-undone s w z za bz bza (a .0) (c .0) (p .0))
+    way-back s ws (w ∷ acc) (o .z) (o .za) z₀ za₀ (ofPartner (reportOf o) ∷ before) (b .0) (b .1) (a .1) (c .1) (p .1) (h .1)
+    (ap (λ (u : Outcome). reportFirst u (runOf (undoPaper s) acc (u .z) (u .za))) (word-undone s w z za bz bza (a .0) (c .0) (p .0) (h .0))
     ∙ ap (reportFirst (undoneFrom o z za)) e)
 
 pub sweep-closes : SweepCloses
 unfolding runOf
-sweep-closes s ws z za bz bza a c p = way-back s ws [] z za z za [] bz bza a c p refl
+sweep-closes s ws z za bz bza a c p h = way-back s ws [] z za z za [] bz bza a c p h refl
+
+-- ---- VL 128
+
+none-above : (s : Settings) (d : ℕ) (z : List ℕ) → VL s ≡ 128 → ClearAbove s d z
+unfolding vectorBytes
+none-above s d z e i l h = absurd (omega arith)
+
+of-family : (s : Settings) (f : Fields) (z : List ℕ) (family : Family) → VL s ≡ 128 → ClearIfV family s f z
+of-family s f z ByElement e = none-above s (f .destination) z e
+of-family s f z Vector e = none-above s (f .destination) z e
+of-family s f z Saturating e = tt
+of-family s f z LongLong e = tt
+of-family s f z Long e = tt
+
+pub clear-at-128 : ClearAt128
+clear-at-128 s [] z za e = tt
+clear-at-128 s (w ∷ ws) z za e = (λ f d. of-family s f z (f .family) e, clear-at-128 s ws (executePaper s w z za .z) (executePaper s w z za .za) e)
 
 -- ---- the partners
 

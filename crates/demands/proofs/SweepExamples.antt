@@ -1,30 +1,35 @@
 -- The sweep of specs/SweepExamples.antt that meets every premise closes; those that fail one do not, though they meet the others. Assumes nothing.
-use Prim.Native.Nat.{ℕ}
+use Prim.Native.Nat.{ℕ, _+_, _-_, _*_, _/_, _<_}
 use native.Mathlib.Omega.{arith}
 use mathlib.Core.Path.{_≡_, refl, sym, ap, _∙_, subst}
 use mathlib.Core.Logic.{_≢_}
 use mathlib.Core.Bool.{false}
 use mathlib.Core.List.{List, [], _∷_, map, reverse}
 use lib.Dec.{eqb}
-use lib.ListN.{getD}
+use lib.ListN.{getD, take, drop}
+use lib.Seq.{getD-take, getD-drop}
 use borrow.Author.Tests.{eqb-false}
 use Rattle.settings.specs.Valid.{validSettings, vectorBytes, arrayBytes}
+use Rattle.settings.specs.declared.Settings.{Settings}
 use Rattle.words.specs.Says.{describe}
 use Rattle.words.specs.Decode.{enables, decodeEnabled, decodePaper}
 use Rattle.words.specs.declared.Family.the-variants.{Saturating}
 use Rattle.words.specs.declared.Fields.{Fields}
 use Rattle.words.proofs.Answers.{not-c}
-use Rattle.elements.specs.Elements.{lowBytes, vector, element}
+use Rattle.elements.specs.Elements.{zeros, lowBytes, vector, element}
 use Rattle.elements.specs.Files.{vectorAt, laid, renewed}
+use Rattle.elements.proofs.Elements.{getD-zeros, Bytes-zeros}
 use Rattle.elements.proofs.Vectors.{Bytes-vector}
 use Rattle.lanes.specs.Element.{newBytes}
 use Rattle.machine.specs.Step.{register, newRegister, zAfter}
 use Rattle.machine.specs.Execute.{stepped, executePaper}
 use Rattle.machine.specs.Run.{Report, Run}
-use Rattle.demands.specs.Sweep.{SourcesApart, ofPartner}
-use Rattle.demands.specs.SweepExamples.{Given, sweepSettings, startZ, startZa, Answer, sweepAnswer, ownFirst, ownSecond, saturates, unknown, wrongMode, answers-hold}
-use Rattle.demands.specs.SweepExamples.{closing, ClosesFrom, AllBytes, AllAccepted, NoneSaturating, NoneItsOwnSource, AllMet, StaysOpen, EachNeeded}
-use Rattle.demands.proofs.Sweep.{sweep-closes}
+use Rattle.demands.specs.Execution.{ClearAbove}
+use Rattle.demands.specs.Sweep.{SourcesApart, ClearIfV, ofPartner}
+use Rattle.demands.specs.SweepExamples.{Given, sweepSettings, startZ, startZa, Answer, sweepAnswer, ownFirst, ownSecond, saturates, unknown, wrongMode, notClear, intoZa}
+use Rattle.demands.specs.SweepExamples.{answers-hold}
+use Rattle.demands.specs.SweepExamples.{closing, ClosesFrom, AllBytes, AllAccepted, NoneSaturating, NoneItsOwnSource, AllClear, Met, AllMet, StaysOpen, EachNeeded}
+use Rattle.demands.proofs.Sweep.{sweep-closes, clear-at-128}
 
 first-number : List Report → ℕ
 first-number [] = 0
@@ -32,21 +37,21 @@ first-number (r ∷ rs) = r .0
 
 -- ---- answers that rule out that a sweep closes
 
-module _ (bytes r : ℕ) (g : Given) (x : Answer) (is : sweepAnswer bytes r g ≡ x) where
+module _ (bytes r e : ℕ) (g : Given) (x : Answer) (is : sweepAnswer bytes r e g ≡ x) where
   -- an element did not come back
   moved : x .returned ≢ x .start → ClosesFrom g → ⊥
   unfolding sweepAnswer
-  moved h e =
+  moved h c =
       h (sym (ap (λ (a : Answer). a .returned) is)
-      ∙ ap (λ (y : Run). element bytes (register (sweepSettings g) (y .z) r) 0) e
+      ∙ ap (λ (y : Run). element bytes (register (sweepSettings g) (y .z) r) e) c
       ∙ ap (λ (a : Answer). a .start) is)
 
   -- the first partner was not accepted
   refused : first-number (x .backward) ≢ first-number (reverse (map ofPartner (x .forward))) → ClosesFrom g → ⊥
   unfolding sweepAnswer
-  refused h e =
+  refused h c =
       h (sym (ap (λ (a : Answer). first-number (a .backward)) is)
-      ∙ ap (λ (y : Run). first-number (y .reports)) e
+      ∙ ap (λ (y : Run). first-number (y .reports)) c
       ∙ ap (λ (a : Answer). first-number (reverse (map ofPartner (a .forward)))) is)
 
 -- ---- the lines of the table
@@ -63,7 +68,7 @@ no-fields : (d : ℕ × Fields) (P : Fields → Type 0) → d .0 ≢ 0 → (f : 
 no-fields d P n f e = absurd (n (ap (λ (x : ℕ × Fields). x .0) e))
 
 all-bytes : (g : Given) → AllBytes g
-all-bytes g = (Bytes-vector (λ e. g .each) 2 256, Bytes-vector (λ e. 0) 2 128)
+all-bytes g = (Bytes-vector _ 2 (32 * (g .vl / 16)), Bytes-zeros (g .vl / 8 * (g .vl / 8)))
 
 stays-open : (g : Given) (Meets : Type 0) → Meets → (ClosesFrom g → ⊥) → StaysOpen g Meets
 stays-open g Meets m n = record { bytes = all-bytes g; meets = m; not-closed = n }
@@ -82,19 +87,55 @@ Sources f = SourcesApart (f .family) f
 apart : (d n m : ℕ) → eqb d n ≡ false → eqb d m ≡ false → (d ≢ n) × (d ≢ m)
 apart d n m p q = (eqb-false d n p, eqb-false d m q)
 
+-- register d, of w bytes, is clear from byte 16 on
+clear-by : (s : Settings) (d w : ℕ) (z : List ℕ) → vectorBytes s ≡ w → take (w - 16) (drop (d * w + 16) z) ≡ zeros (w - 16) → ClearAbove s d z
+clear-by s d w z ew e i l h =
+    let j : ℕ = i - 16 in
+    let at : d * vectorBytes s + i ≡ d * w + 16 + j = rw ew (omega arith) in
+    let short : j < w - 16 = omega arith in
+    ap (λ (k : ℕ). getD z k 0) at
+    ∙ sym (getD-drop (d * w + 16) z j 0)
+    ∙ sym (getD-take (w - 16) (drop (d * w + 16) z) j 0 short)
+    ∙ ap (λ (u : List ℕ). getD u j 0) e
+    ∙ getD-zeros (w - 16) j
+
+-- what a word asks of Z, by its fields
+abbrev Clear : Given → List ℕ → Fields → Type 0
+Clear g z f = ClearIfV (f .family) (sweepSettings g) f z
+
+met : (g : Given) → AllAccepted g → NoneSaturating g → NoneItsOwnSource g → AllClear g → Met g
+met g accepted wrapping sources clear = (
+  all-bytes g,
+  accepted,
+  wrapping,
+  sources,
+  clear,
+  sweep-closes (sweepSettings g) (g .words) (startZ g) (startZa g) (all-bytes g .0) (all-bytes g .1) accepted wrapping sources clear,
+)
+
+-- Z between the two words
+abbrev between : List ℕ
+between = executePaper (sweepSettings closing) 0x0E228020 (startZ closing) (startZa closing) .z
+
 pub all-met : AllMet
 unfolding decodePaper decodeEnabled describe enables validSettings vectorBytes arrayBytes executePaper stepped zAfter
     newRegister renewed laid newBytes vector lowBytes vectorAt
-all-met =
-    let accepted : AllAccepted closing = (refl, (refl, tt)) in
-    let wrapping : NoneSaturating closing = (by-fields (decoded closing 0x0E228020) Wraps (not-c _ .1 refl), (by-fields (decoded closing 0x0E208023) Wraps (not-c _ .1 refl), tt)) in
-    let sources : NoneItsOwnSource closing = (by-fields (decoded closing 0x0E228020) Sources (apart 0 1 2 refl refl), (by-fields (decoded closing 0x0E208023) Sources (apart 3 1 0 refl refl), tt)) in (
-      all-bytes closing,
-      accepted,
-      wrapping,
-      sources,
-      sweep-closes (sweepSettings closing) (closing .words) (startZ closing) startZa (all-bytes closing .0) (all-bytes closing .1) accepted wrapping sources,
-    )
+all-met = (
+  met closing (refl, (refl, tt))
+      (by-fields (decoded closing 0x0E228020) Wraps (not-c _ .1 refl), (by-fields (decoded closing 0x0E208023) Wraps (not-c _ .1 refl), tt))
+      (by-fields (decoded closing 0x0E228020) Sources (apart 0 1 2 refl refl), (by-fields (decoded closing 0x0E208023) Sources (apart 3 1 0 refl refl), tt)) (
+        by-fields (decoded closing 0x0E228020) (Clear closing (startZ closing)) (clear-by (sweepSettings closing) 0 32 (startZ closing) refl refl),
+        (by-fields (decoded closing 0x0E208023) (Clear closing between) (clear-by (sweepSettings closing) 3 32 between refl refl), tt),
+      ),
+  met intoZa (refl, tt)
+      (by-fields (decoded intoZa 0xC1A20008) Wraps (not-c _ .1 refl), tt)
+      (by-fields (decoded intoZa 0xC1A20008) Sources tt, tt)
+      (by-fields (decoded intoZa 0xC1A20008) (Clear intoZa (startZ intoZa)) tt, tt),
+)
+
+-- at VL 128 nothing is asked of Z
+clear-128 : (g : Given) → g .vl ≡ 128 → AllClear g
+clear-128 g e = clear-at-128 (sweepSettings g) (g .words) (startZ g) (startZa g) e
 
 pub each-needed : EachNeeded
 unfolding nth first-number decodePaper decodeEnabled describe enables validSettings vectorBytes arrayBytes executePaper stepped vector
@@ -102,24 +143,33 @@ unfolding nth first-number decodePaper decodeEnabled describe enables validSetti
 each-needed =
     record {
       not-its-first =
-          stays-open ownFirst _ ((refl, tt), (by-fields (decoded ownFirst 0x0E228021) Wraps (not-c _ .1 refl), tt))
-          (moved 2 1 ownFirst _ (ap (nth 1) answers-hold) (λ (e : _≡_ {A = ℕ} 0x0100 0x0101). omega arith));
+          stays-open ownFirst _ ((refl, tt), (by-fields (decoded ownFirst 0x0E228021) Wraps (not-c _ .1 refl), tt), clear-128 ownFirst refl)
+          (moved 2 1 0 ownFirst _ (ap (nth 1) answers-hold) (λ (e : _≡_ {A = ℕ} 0x0100 0x0101). omega arith));
       not-its-second =
-          stays-open ownSecond _ ((refl, tt), (by-fields (decoded ownSecond 0x0E228022) Wraps (not-c _ .1 refl), tt))
-          (moved 2 2 ownSecond _ (ap (nth 2) answers-hold) (λ (e : _≡_ {A = ℕ} 0x0100 0x0101). omega arith));
+          stays-open ownSecond _ ((refl, tt), (by-fields (decoded ownSecond 0x0E228022) Wraps (not-c _ .1 refl), tt), clear-128 ownSecond refl)
+          (moved 2 2 0 ownSecond _ (ap (nth 2) answers-hold) (λ (e : _≡_ {A = ℕ} 0x0100 0x0101). omega arith));
       not-saturating =
-          stays-open saturates _ ((refl, tt), (by-fields (decoded saturates 0x44BA3820) Sources tt, tt))
-          (refused 4 0 saturates _ (ap (nth 3) answers-hold) (λ (e : _≡_ {A = ℕ} 6 0). omega arith));
+          stays-open saturates _ ((refl, tt), (by-fields (decoded saturates 0x44BA3820) Sources tt, tt), clear-128 saturates refl)
+          (refused 4 0 0 saturates _ (ap (nth 3) answers-hold) (λ (e : _≡_ {A = ℕ} 6 0). omega arith));
       not-refused-3 =
           stays-open unknown _ (
             (no-fields (decoded unknown 0x0E228020) Wraps (λ (e : _≡_ {A = ℕ} 3 0). omega arith), tt),
             (no-fields (decoded unknown 0x0E228020) Sources (λ (e : _≡_ {A = ℕ} 3 0). omega arith), tt),
+            clear-128 unknown refl,
           )
-          (refused 2 0 unknown _ (ap (nth 4) answers-hold) (λ (e : _≡_ {A = ℕ} 3 0). omega arith));
+          (refused 2 0 0 unknown _ (ap (nth 4) answers-hold) (λ (e : _≡_ {A = ℕ} 3 0). omega arith));
       not-refused-4 =
           stays-open wrongMode _ (
             (by-fields (decoded wrongMode 0x0E228020) Wraps (not-c _ .1 refl), tt),
             (by-fields (decoded wrongMode 0x0E228020) Sources (apart 0 1 2 refl refl), tt),
+            clear-128 wrongMode refl,
           )
-          (refused 2 0 wrongMode _ (ap (nth 5) answers-hold) (λ (e : _≡_ {A = ℕ} 4 0). omega arith));
+          (refused 2 0 0 wrongMode _ (ap (nth 5) answers-hold) (λ (e : _≡_ {A = ℕ} 4 0). omega arith));
+      clear-above =
+          stays-open notClear _ (
+            (refl, tt),
+            (by-fields (decoded notClear 0x0E228020) Wraps (not-c _ .1 refl), tt),
+            (by-fields (decoded notClear 0x0E228020) Sources (apart 0 1 2 refl refl), tt),
+          )
+          (moved 2 0 8 notClear _ (ap (nth 6) answers-hold) (λ (e : _≡_ {A = ℕ} 0 0x0101). omega arith));
     }

@@ -11,7 +11,7 @@ use Rattle.elements.specs.Elements.{Bytes}
 use Rattle.machine.specs.Execute.{ExecutePromise}
 use Rattle.machine.specs.declared.Executed.{Executed}
 use Rattle.machine.specs.declared.Executed.the-variants.{Done, Refused}
-use Rattle.demands.specs.Sweep.{NotSaturating, NotItsOwnSource}
+use Rattle.demands.specs.Sweep.{NotSaturating, NotItsOwnSource, ClearInTurn}
 
 -- what is promised of a word, Z and ZA before, the answer, Z and ZA after
 abbrev pub Promise : Type 1
@@ -49,6 +49,6 @@ partnerAnswers (Refused r) = Refused r
 abbrev pub CallersSee : Type 0
 CallersSee =
     (s : Settings) (ws z za z₁ za₁ z₂ za₂ : List ℕ) (rs qs : List Executed) → Bytes z → Bytes za
-    → Calls (ExecutePromise s) ws z za rs z₁ za₁ → AllDone rs → Each (NotSaturating s) ws → Each (NotItsOwnSource s) ws
+    → Calls (ExecutePromise s) ws z za rs z₁ za₁ → AllDone rs → Each (NotSaturating s) ws → Each (NotItsOwnSource s) ws → ClearInTurn s ws z za
     → Calls (UndoCalls s) (reverse ws) z₁ za₁ qs z₂ za₂
     → (qs ≡ reverse (map partnerAnswers rs)) × (z₂ ≡ z) × (za₂ ≡ za)

@@ -4,7 +4,7 @@ use mathlib.Core.Path.{_≡_}
 use mathlib.Core.Logic.{_⊎_, _↔_, _≢_}
 use mathlib.Core.Bool.{true, false}
 use mathlib.Core.List.{List}
-use lib.ListN.{length, getD}
+use lib.ListN.{length, getD, take, drop}
 use Rattle.settings.specs.Valid.{validSettings, vectorBytes, arrayBytes}
 use Rattle.settings.specs.declared.Settings.{Settings}
 use Rattle.words.specs.Decode.{decodePaper}
@@ -14,8 +14,10 @@ use Rattle.words.specs.declared.Fields.{Fields}
 use Rattle.elements.specs.Elements.{Bytes, elementOf}
 use Rattle.elements.specs.Files.{vectorAt}
 use Rattle.lanes.specs.Lane.{laneStep, satStep}
+use Rattle.lanes.specs.Element.{newBytes}
+use Rattle.recipes.specs.Recipe.{recipeOf}
 use lib.Bits.{differ}
-use Rattle.bits.specs.Bits.{overBytes, rises, falls}
+use Rattle.bits.specs.Bits.{overBytes, rises, falls, onesOf}
 use Rattle.machine.specs.Modes.{permits}
 use Rattle.machine.specs.Step.{register, stride, selected, firstVector, writesVector}
 use Rattle.machine.specs.Execute.{Outcome, refusedWith, stepped, executePaper}
@@ -148,27 +150,61 @@ ElementsZa k s f z za o =
     (elementOf (f .lane) (register s z (f .first + r)) (k * e + i))
     (elementOf (f .lane) (register s z (f .second + r)) (k * e + i))
 
--- "Written is 128 in A and B, VL in C, VL·group·4 in D, VL·group·2 in E"
+-- A, B: "Their written count becomes VL" (document 02). "VL in C, VL·group·4 in D, VL·group·2 in E"
 pub record WrittenIs : Type 0 where
-  pub in-a : Whenever ByElement (λ s f z za o. o .written ≡ 128)
-  pub in-b : Whenever Vector (λ s f z za o. o .written ≡ 128)
+  pub in-a : Whenever ByElement (λ s f z za o. o .written ≡ VL s)
+  pub in-b : Whenever Vector (λ s f z za o. o .written ≡ VL s)
   pub in-c : Whenever Saturating (λ s f z za o. o .written ≡ VL s)
   pub in-d : Whenever LongLong (λ s f z za o. o .written ≡ VL s * f .group * 4)
   pub in-e : Whenever Long (λ s f z za o. o .written ≡ VL s * f .group * 2)
 
+-- ---- the upper part of a V write
+
+-- "V register d is the low 16 bytes of Z register d": the bytes of register d from 16 on are zeros
+abbrev pub ClearAbove : Settings → ℕ → List ℕ → Type 0
+ClearAbove s d z = (i : ℕ) → 16 ≤ i → i < vectorBytes s → getD z (d * vectorBytes s + i) 0 ≡ 0
+
+-- P in A and in B
+abbrev pub WheneverV : (Settings → Fields → List ℕ → List ℕ → Outcome → Type 0) → Type 0
+WheneverV P = Whenever ByElement P × Whenever Vector P
+
+-- "writing a V register sets the rest of the Z register to zero. Families A and B now do this" (document 02)
+abbrev pub ClearsAbove : Settings → Fields → List ℕ → List ℕ → Outcome → Type 0
+ClearsAbove s f z za o = ClearAbove s (f .destination) (o .z)
+
+-- the V register of register d, and what is above it
+abbrev pub lowPart : Settings → ℕ → List ℕ → List ℕ
+lowPart s d z = take 16 (register s z d)
+
+abbrev pub upperPart : Settings → ℕ → List ℕ → List ℕ
+upperPart s d z = drop 16 (register s z d)
+
+-- "cleared bits count as falls": beside those of the V register each 1 above it falls, and nothing rises there
+abbrev pub CountsCleared : Settings → Fields → List ℕ → List ℕ → Outcome → Type 0
+CountsCleared s f z za o =
+    (o .rises ≡ rises (lowPart s (f .destination) z) (lowPart s (f .destination) (o .z)))
+    × (o .falls ≡ falls (lowPart s (f .destination) z) (lowPart s (f .destination) (o .z)) + onesOf (upperPart s (f .destination) z))
+
+-- "At VL 128 nothing changes": a register has 16 bytes, the new one is those that the elements give, and written is 128
+abbrev pub SameAt128 : Settings → Fields → List ℕ → List ℕ → Outcome → Type 0
+SameAt128 s f z za o =
+    VL s ≡ 128
+    → (register s (o .z) (f .destination)
+    ≡ newBytes (recipeOf (f .family) f 0) 16 (register s z (f .destination)) (register s z (f .first)) (register s z (f .second)))
+    × (o .written ≡ 128)
+
 -- ---- everything else stays
 
--- A, B and C leave ZA, and each byte of Z but the new ones of the destination
-abbrev pub ElsewhereZ : ℕ → Settings → Fields → List ℕ → List ℕ → Outcome → Type 0
-ElsewhereZ new s f z za o =
+-- A, B and C leave ZA, and each byte of Z but those of the destination
+abbrev pub ElsewhereZ : Settings → Fields → List ℕ → List ℕ → Outcome → Type 0
+ElsewhereZ s f z za o =
     (o .za ≡ za)
-    × ((i : ℕ) → (i < f .destination * vectorBytes s) ⊎ (f .destination * vectorBytes s + new ≤ i) → getD (o .z) i 0 ≡ getD z i 0)
+    × ((i : ℕ) → (i < f .destination * vectorBytes s) ⊎ (f .destination * vectorBytes s + vectorBytes s ≤ i) → getD (o .z) i 0 ≡ getD z i 0)
 
--- "V register d is the low 16 bytes of Z register d"; the bytes above them "stay as they were"
 pub record ZElsewhere : Type 0 where
-  pub in-a : Whenever ByElement (ElsewhereZ 16)
-  pub in-b : Whenever Vector (ElsewhereZ 16)
-  pub in-c : Whenever Saturating (λ s. ElsewhereZ (vectorBytes s) s)
+  pub in-a : Whenever ByElement ElsewhereZ
+  pub in-b : Whenever Vector ElsewhereZ
+  pub in-c : Whenever Saturating ElsewhereZ
 
 -- v is first + r·stride + i, with r below group and i below k
 pub record Among (k : ℕ) (s : Settings) (f : Fields) (v : ℕ) : Type 0 where

@@ -17,6 +17,7 @@ use Rattle.words.specs.declared.Fields.{Fields}
 use Rattle.elements.specs.Elements.{Bytes}
 use Rattle.machine.specs.Execute.{refusedWith, executePaper}
 use Rattle.machine.specs.Run.{Report, Run, PerWord, runOf}
+use Rattle.demands.specs.Execution.{VL, ClearAbove}
 
 -- ---- there and back
 
@@ -55,6 +56,26 @@ SourcesApart Long f = Unit {0}
 abbrev pub NotItsOwnSource : Settings → ℕ → Type 0
 NotItsOwnSource s w = (f : Fields) → decodePaper s w ≡ (0, f) → SourcesApart (f .family) f
 
+-- what a family asks of the register that it writes: A and B clear it from byte 16 on, and no step brings back what was there
+abbrev pub ClearIfV : Family → Settings → Fields → List ℕ → Type 0
+ClearIfV ByElement s f z = ClearAbove s (f .destination) z
+ClearIfV Vector s f z = ClearAbove s (f .destination) z
+ClearIfV Saturating s f z = Unit {0}
+ClearIfV LongLong s f z = Unit {0}
+ClearIfV Long s f z = Unit {0}
+
+abbrev pub DestinationClear : Settings → ℕ → List ℕ → Type 0
+DestinationClear s w z = (f : Fields) → decodePaper s w ≡ (0, f) → ClearIfV (f .family) s f z
+
+-- "before each A or B word runs, its destination has zeros from byte 16 on" (document 02): in the state of its turn
+abbrev pub ClearInTurn : Settings → List ℕ → List ℕ → List ℕ → Type 0
+ClearInTurn s [] z za = Unit {0}
+ClearInTurn s (w ∷ ws) z za = DestinationClear s w z × ClearInTurn s ws (executePaper s w z za .z) (executePaper s w z za .za)
+
+-- at VL 128 there is nothing above, and nothing is asked
+abbrev pub ClearAt128 : Type 0
+ClearAt128 = (s : Settings) (ws z za : List ℕ) → VL s ≡ 128 → ClearInTurn s ws z za
+
 -- ---- the theorem
 
 -- what a partner reports where its word reported r: it is accepted, and "a partner's rises are its word's falls, and the other way round" (document 02)
@@ -69,7 +90,7 @@ Closes s ws z za = back s ws z za ≡ record { z = z; za = za; reports = reverse
 abbrev pub SweepCloses : Type 0
 SweepCloses =
     (s : Settings) (ws z za : List ℕ) → Bytes z → Bytes za
-    → AcceptedInTurn (executePaper s) ws z za → Each (NotSaturating s) ws → Each (NotItsOwnSource s) ws
+    → AcceptedInTurn (executePaper s) ws z za → Each (NotSaturating s) ws → Each (NotItsOwnSource s) ws → ClearInTurn s ws z za
     → Closes s ws z za
 
 -- ---- what it says of the partners

@@ -5,13 +5,13 @@ use mathlib.Core.Logic.{⊎-elim}
 use Prim.Native.Nat.{ℕ, zero, suc, _+_, _*_, _/_, _%_, _^_, _≤_, _<_}
 use native.Mathlib.Nat.{add-zero, add-suc, add-assoc, mul-assoc, mul-comm, mul-suc, add-mul, zero-mul, pow-suc, one-le-pow, mul-le-mul-right, eq-or-lt-of-le, le-refl, mod-one, mod-lt, div-div-eq-div-mul}
 use native.Mathlib.Omega.{arith}
-use lib.ListN.{length, getD, take, drop, length-set}
+use lib.ListN.{length, getD, take, drop, length-set, length-replicate}
 use lib.Seq.{getD-set-same, getD-set-other, getD-take, getD-drop}
 use lib.Pow.{pow-add}
 use lib.Arith.{mod-mul}
 use lib.Dec.{lit<}
 pub use Rattle.elements.specs.Elements.{Bytes}
-use Rattle.elements.specs.Elements.{elementAt, putAt, lowBytes, splice}
+use Rattle.elements.specs.Elements.{zeros, elementAt, putAt, lowBytes, splice}
 
 -- ---- numbers of k bytes
 
@@ -50,6 +50,24 @@ Bytes-lowBytes (suc k) v i = Bytes-append (lowBytes k v) (v / 256 ^ k % 256 ∷ 
     last : Bytes (v / 256 ^ k % 256 ∷ [])
     last zero = mod-lt (v / 256 ^ k) (lit< tt)
     last (suc i) = lit< tt
+
+-- ---- zeros
+
+pub length-zeros : (n : ℕ) → length (zeros n) ≡ n
+length-zeros n = length-replicate n 0
+
+pub getD-zeros : (n i : ℕ) → getD (zeros n) i 0 ≡ 0
+getD-zeros zero i = refl
+getD-zeros (suc n) zero = refl
+getD-zeros (suc n) (suc i) = getD-zeros n i
+
+pub Bytes-zeros : (n : ℕ) → Bytes (zeros n)
+Bytes-zeros n i = rw getD-zeros (lit< tt)
+
+pub elementAt-zeros : (k at n : ℕ) → elementAt k at (zeros n) ≡ 0
+unfolding elementAt
+elementAt-zeros zero at n = refl
+elementAt-zeros (suc k) at n = rw (elementAt-zeros k at n, getD-zeros, zero-mul)
 
 -- ---- an element
 

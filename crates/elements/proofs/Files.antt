@@ -4,7 +4,7 @@ use mathlib.Core.Bool.{Bool, true, false, cond}
 use mathlib.Core.List.{List, _++_, append-assoc}
 use mathlib.Core.Logic.{_≢_, ⊎-elim}
 use Prim.Native.Nat.{ℕ, zero, suc, _+_, _-_, _*_, _≤_, _<_}
-use native.Mathlib.Nat.{add-mul, one-mul, zero-mul, suc-mul, le-refl, eq-or-lt-of-le}
+use native.Mathlib.Nat.{add-assoc, add-mul, one-mul, zero-mul, suc-mul, le-refl, eq-or-lt-of-le}
 use native.Mathlib.Decide.{decLe}
 use native.Mathlib.Omega.{arith}
 use lib.ListN.{length, getD, take, drop, length-append, length-take, length-drop, take-append-drop}
@@ -65,19 +65,14 @@ part-same a w s t long h =
     let p : i < w = omega (arith, length-take w (drop a s)) in
     getD-take w (drop a s) i 0 p ∙ getD-drop a s i 0 ∙ h i p ∙ sym (getD-drop a t i 0) ∙ sym (getD-take w (drop a t) i 0 p))
 
--- a short splice is one of the whole part: what it leaves of the part, it writes again
-pub splice-part : (at w : ℕ) (x s : List ℕ) → length x ≤ w → at + w ≤ length s → splice at x s ≡ splice at (x ++ drop (length x) (take w (drop at s))) s
-splice-part at w x s short fit =
-    let p : List ℕ = take w (drop at s) in
-    let rest : List ℕ = drop (length x) p in
-    let lp : length p ≡ w = length-take-le w (drop at s) (rw length-drop (omega arith)) in
-    let lr : length (x ++ rest) ≡ w = rw (length-append, length-drop, lp) (omega arith) in
-    let tail : drop (at + length x) s ≡ rest ++ drop (at + w) s =
-    sym (drop-drop (length x) at s)
-    ∙ ap (drop (length x)) (sym (take-append-drop w (drop at s)))
-    ∙ drop-append-le (length x) p (drop w (drop at s)) (omega arith)
-    ∙ rw drop-drop in
-    rw (lr, tail) (simp append-assoc)
+-- two splices, one right behind the other, are one
+pub splice-behind : (at : ℕ) (x y s : List ℕ) → at + length x ≤ length s → splice (at + length x) y (splice at x s) ≡ splice at (x ++ y) s
+splice-behind at x y s fit =
+    let t : List ℕ = splice at x s in
+    let rest : drop (at + length x + length y) t ≡ drop (at + length x + length y) s =
+    sym (drop-drop (length y) (at + length x) t) ∙ ap (drop (length y)) (drop-splice at x s fit) ∙ drop-drop (length y) (at + length x) s in
+    let start : take (at + length x) t ≡ take at s ++ x = take-at (take at s ++ x) (drop (at + length x) s) (at + length x) (front-two at x s fit) in
+    rw (start, rest, length-append, add-assoc) (simp append-assoc)
 
 -- ---- a vector of a file
 

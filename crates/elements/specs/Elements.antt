@@ -1,11 +1,15 @@
 -- Elements of a list of bytes. They lie low byte first.
 use mathlib.Core.List.{List, [], _∷_, _++_}
 use Prim.Native.Nat.{ℕ, zero, suc, _+_, _*_, _/_, _%_, _^_, _<_}
-use lib.ListN.{length, getD, set, take, drop}
+use lib.ListN.{length, getD, set, take, drop, replicate}
 
 -- the numbers of s are bytes
 abbrev pub Bytes : List ℕ → Type 0
 Bytes s = (i : ℕ) → getD s i 0 < 256
+
+-- n bytes that are 0
+abbrev pub zeros : ℕ → List ℕ
+zeros n = replicate n 0
 
 -- the number in the k bytes of s from `at`
 unfoldable pub elementAt : ℕ → ℕ → List ℕ → ℕ

@@ -79,6 +79,6 @@ HostRead settings text r = Reads (settingsOf settings) text (halves r)
 
 -- ---- version
 
--- of the library, 2.0.0: ten thousands are its major number, hundreds its minor one. `CALLINGLAMP_VERSION` of its header is the same.
+-- of the library, 3.0.0: ten thousands are its major number, hundreds its minor one. `CALLINGLAMP_VERSION` of its header is the same.
 abbrev pub HostVersion : ℕ → Type 0
-HostVersion r = r ≡ 20000
+HostVersion r = r ≡ 30000

@@ -1,10 +1,10 @@
 -- The Z register of a word: writing its new bytes comes to Z after the step. Assumes nothing.
-use Prim.Native.Nat.{ℕ, _+_, _*_, _≤_}
+use Prim.Native.Nat.{ℕ, _*_}
 use native.Mathlib.Omega.{arith}
-use mathlib.Core.Path.{_≡_, refl, sym, ap, _∙_}
-use mathlib.Core.List.{List, _++_}
+use mathlib.Core.Path.{_≡_, refl, sym}
+use mathlib.Core.List.{List}
 use lib.Dec.{eqb}
-use lib.ListN.{length, drop, take, length-append, length-drop}
+use lib.ListN.{length, length-append}
 use borrow.Author.Tests.{eqb-true, eq-eqb}
 use Rattle.settings.specs.Lengths.{VectorLength}
 use Rattle.settings.specs.Valid.{vectorBytes}
@@ -12,8 +12,9 @@ use Rattle.settings.specs.declared.Settings.{Settings}
 use Rattle.words.specs.Ranges.{Ranges}
 use Rattle.words.specs.declared.Fields.{Fields}
 use Rattle.elements.specs.Elements.{splice}
-use Rattle.elements.specs.Files.{vectorAt, replaced}
-use Rattle.elements.proofs.Files.{next, room, length-vectorAt, splice-part, replaced-renewed}
+use Rattle.elements.specs.Files.{replaced}
+use Rattle.elements.proofs.Elements.{length-zeros}
+use Rattle.elements.proofs.Files.{replaced-renewed}
 use Rattle.recipes.specs.Recipe.{recipeOf, newLength}
 use Rattle.lanes.specs.Element.{newBytes}
 use Rattle.recipes.proofs.Inside.{new-length, length-newBytes}
@@ -33,26 +34,15 @@ module _ (s : Settings) (v : VectorLength (vectorBytes s)) (f : Fields) (g : Ran
   pub long-x : length x ≡ n
   long-x = length-newBytes f g 0 n _ _ _ (new-length (f .family) w v .0)
 
-  fit : (f .destination + 1) * w ≤ length z
-  fit = room (f .destination) 32 w z long (g .destination)
-
   pub long-register : length (newRegister s f z) ≡ w
   unfolding newRegister
   long-register =
-      rw (length-append, long-x, length-drop, length-vectorAt w (f .destination) z fit) (omega (arith, new-length (f .family) w v .1))
+      rw (length-append, long-x, length-zeros) (omega (arith, new-length (f .family) w v .1))
 
-  -- the low bytes written, and the register written
-  whole-register : splice (f .destination * w) x z ≡ splice (f .destination * w) (newRegister s f z) z
-  unfolding newRegister vectorAt
-  whole-register =
-      splice-part (f .destination * w) w x z (omega (arith, long-x, new-length (f .family) w v .1)) (omega (arith, fit, next (f .destination) w))
-      ∙ ap (λ (k : ℕ). splice (f .destination * w) (x ++ drop k (take w (drop (f .destination * w) z))) z) long-x
-
-  pub register-is : splice (f .destination * w) x z ≡ zAfter s f z
+  pub register-is : splice (f .destination * vectorBytes s) (newRegister s f z) z ≡ zAfter s f z
   unfolding zAfter replaced
   register-is =
-      whole-register
-      ∙ replaced-renewed (λ q. f .destination) (λ u. 0) (λ q. newRegister s f z) (λ r. eqb r (f .destination)) w 32 1 z
+      replaced-renewed (λ q. f .destination) (λ u. 0) (λ q. newRegister s f z) (λ r. eqb r (f .destination)) w 32 1 z
       (record { long = long; inside = λ q h. g .destination; wide = λ q h. long-register })
       (λ p q hp hq e. omega arith)
       (record { named = λ u h e. (omega arith, sym (eqb-true u (f .destination) e)); all = λ q h. eq-eqb (f .destination) (f .destination) refl })

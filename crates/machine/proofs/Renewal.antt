@@ -1,10 +1,10 @@
--- A vector that becomes new in its place; C's is built aside. Assumes nothing.
-use Prim.Native.Nat.{ℕ, _+_, _*_, _%_, _≤_, _<_}
-use native.Mathlib.Nat.{mul-le-mul}
+-- A vector that becomes new in its place; C's is built aside, and what is above a V register cleared. Assumes nothing.
+use Prim.Native.Nat.{ℕ, _+_, _-_, _*_, _%_, _≤_, _<_}
+use native.Mathlib.Nat.{add-zero, mul-le-mul}
 use native.Mathlib.Omega.{arith}
 use mathlib.Core.Path.{_≡_, refl, sym, ap, _∙_, subst}
 use mathlib.Core.Logic.{_≢_, _⊎_, inl, inr}
-use mathlib.Core.List.{List}
+use mathlib.Core.List.{List, _++_, append-nil}
 use lib.Dec.{lit<}
 use lib.ListN.{length, drop}
 use Rattle.settings.specs.Lengths.{VectorLength}
@@ -15,15 +15,18 @@ use Rattle.words.specs.declared.Fields.{Fields}
 use Rattle.words.proofs.Ranges.{in-family}
 use Rattle.elements.specs.Files.{vectorAt}
 use Rattle.elements.proofs.Vectors.{within}
-use Rattle.elements.proofs.Files.{next, room}
-use Rattle.bits.specs.Replace.{Replaced}
+use Rattle.elements.specs.Elements.{zeros}
+use Rattle.elements.proofs.Elements.{length-zeros}
+use Rattle.elements.proofs.Files.{next, room, length-splice}
+use Rattle.bits.specs.Replace.{Replaced, Cleared}
+use Rattle.bits.proofs.Put.{behind}
 use Rattle.bits.specs.declared.Toggles.{Toggles}
 use Rattle.lanes.specs.Recipe.{Recipe}
 use Rattle.recipes.specs.Recipe.{recipeOf, newLength, perSource, OfC}
 use Rattle.lanes.specs.Element.{newBytes, Inside, RegistersThere}
-use Rattle.recipes.proofs.Inside.{inside}
+use Rattle.recipes.proofs.Inside.{new-length, length-newBytes, inside}
 use Rattle.lanes.proofs.Built.{newBytes-within}
-use Rattle.machine.specs.Loop.{made, RegisterRenewed, IntoZa, Sources, Places}
+use Rattle.machine.specs.Loop.{made, RegisterRenewed, RegisterWritten, IntoV, IntoZa, Sources, Places}
 
 -- ZA has 65,536 bytes at most
 array-small : {w : ℕ} → VectorLength w → w * w ≤ 65536
@@ -59,6 +62,15 @@ some-group f Saturating o = omega (arith, o .0)
 some-group f LongLong o = two-or-four (o .0)
 some-group f Long o = two-or-four (o .0)
 
+-- a V register has 16 bytes
+pub v-length : (f : Fields) (w : ℕ) → IntoV f → newLength (f .family) w ≡ 16
+v-length f w (inl e) = ap (λ (x : Family). newLength x w) e
+v-length f w (inr e) = ap (λ (x : Family). newLength x w) e
+
+-- C's new bytes are the whole register
+pub whole-register : (f : Fields) (w : ℕ) → f .family ≡ Saturating → newLength (f .family) w ≡ w
+whole-register f w c = ap (λ (x : Family). newLength x w) c
+
 -- so each register that it names is one of the 32
 pub source-lt : (f : Fields) → Ranges f → (f .first < 32) × (f .second < 32)
 source-lt f g = let h = some-group f (f .family) (g .of-family) in (omega (arith, g .first), omega (arith, g .second))
@@ -82,11 +94,48 @@ module _ {f : Fields} {w : ℕ} {z : List ℕ} (p : Sources f w z) where
       let g : Inside r n w = subst (λ (m : ℕ). Inside r m w) en (inside f (p .ranges) w (p .width) i hi) in
       subst (λ (u : List ℕ). Replaced (v * w) t u a a′) (e ∙ sym (newBytes-within r n (drop (v * w) a) (drop (x * w) z) (drop (y * w) z) w g))
 
+  -- the new bytes of a word of A, B or C
+  abbrev new-bytes : List ℕ
+  new-bytes = made f 0 (newLength (f .family) w) w (f .destination) z (f .first) (f .second) z
+
+  long-new : length new-bytes ≡ newLength (f .family) w
+  long-new = length-newBytes f (p .ranges) 0 (newLength (f .family) w) _ _ _ (new-length (f .family) w (p .width) .0)
+
+  -- A and B clear what is above the V register
+  module _ (i : IntoV f) {t : Toggles} {z′ : List ℕ} (r : RegisterRenewed f w t z z′) where
+    sixteen : length new-bytes ≡ 16
+    sixteen = long-new ∙ v-length f w i
+
+    fit : f .destination * w + length new-bytes ≤ length z
+    fit = omega (arith, sixteen, p .width .least, register-there (f .destination) (p .ranges .destination))
+
+    pub clear-there : (f .destination * w + 16 + (w - 16) ≤ length z′) × (((w - 16) % 8 ≡ 0) × (w - 16 ≤ 65536))
+    clear-there = (
+      omega (arith, p .width .least, register-there (f .destination) (p .ranges .destination), ap length (r .after) ∙ length-splice _ new-bytes z fit),
+      (omega (arith, p .width .whole), omega (arith, p .width .most)),
+    )
+
+    module _ {c : ℕ} {z″ : List ℕ} (q : Cleared (f .destination * w + 16) (w - 16) c z′ z″) where
+      pub falls-small : t .falls + c ≤ 2048
+      falls-small = omega (arith, r .few, q .few, sixteen, length-zeros (w - 16), p .width .most, p .width .least)
+
+      pub all-written : RegisterWritten f w (record { rises = t .rises; falls = t .falls + c }) z z″
+      all-written =
+          let at : ℕ = f .destination * w in
+          let above : Cleared (at + length new-bytes) (w - newLength (f .family) w) c z′ z″ = rw (sixteen, v-length f w i) q in
+          rw add-zero at
+          (behind at t _ new-bytes (zeros (w - newLength (f .family) w)) z z′ z″
+          (omega (arith, long-new, length-zeros (w - newLength (f .family) w), new-length (f .family) w (p .width) .1, register-there (f .destination) (p .ranges .destination))) r above)
+
+  -- where the new bytes are the whole register there is nothing above them to clear: in C, and in A and B where registers have 16 bytes
+  pub none-above : newLength (f .family) w ≡ w → {t : Toggles} {z′ : List ℕ} → RegisterRenewed f w t z z′ → RegisterWritten f w t z z′
+  none-above whole {t} {z′} r =
+      let none : w - newLength (f .family) w ≡ 0 = omega (arith, whole) in
+      let same : new-bytes ++ zeros (w - newLength (f .family) w) ≡ new-bytes = ap (λ (n : ℕ). new-bytes ++ zeros n) none ∙ append-nil new-bytes in
+      subst (λ (u : List ℕ). Replaced (f .destination * w) t u z z′) (sym same) r
+
   -- C builds the new register aside, in room for it
   module _ (c : f .family ≡ Saturating) (bytes : ℕ) (eb : bytes ≡ w) where
-    whole-register : newLength (f .family) w ≡ w
-    whole-register = ap (λ (x : Family). newLength x w) c
-
     of-c : OfC (f .lane)
     of-c = in-family f (p .ranges) Saturating c .1
 
@@ -119,7 +168,7 @@ module _ {f : Fields} {w : ℕ} {z : List ℕ} (p : Sources f w z) where
           → RegisterRenewed f w t z z′
       step-renewal z′ t e =
           renewal 0 first-source (newLength (f .family) w) refl (f .destination) (f .first) (f .second) z out z′ t
-          (e ∙ ap (λ (n : ℕ). newBytes (recipeOf (f .family) f 0) n (drop (f .destination * w) z) (drop (f .first * w) z) (drop (f .second * w) z)) (eb ∙ sym whole-register))
+          (e ∙ ap (λ (n : ℕ). newBytes (recipeOf (f .family) f 0) n (drop (f .destination * w) z) (drop (f .first * w) z) (drop (f .second * w) z)) (eb ∙ sym (whole-register f w c)))
 
 -- D and E write whole vectors
 pub whole-vector : {f : Fields} {w : ℕ} {z za : List ℕ} → Places f w z za → newLength (f .family) w ≡ w

@@ -4,7 +4,6 @@ use native.Mathlib.Omega.{arith}
 use mathlib.Core.Path.{_≡_, refl}
 use mathlib.Core.Logic.{_⊎_, inl, inr}
 use mathlib.Core.List.{List}
-use lib.Dec.{lit≤}
 use Rattle.settings.specs.Valid.{vectorBytes}
 use Rattle.settings.specs.declared.Settings.{Settings}
 use Rattle.settings.proofs.Lengths.{vector-at-most, vector-bits, array-at-most}
@@ -48,8 +47,8 @@ module _ (s : Settings) (f : Fields) (z za : List ℕ) (p : Ready s z za) where
   in-groups (inr e) = rw e (omega (arith, most))
 
   written-small : (family : Family) → f .family ≡ family → OfFamily family f → written s f ≤ 8192
-  written-small ByElement e o = rw e (lit≤ tt)
-  written-small Vector e o = rw e (lit≤ tt)
+  written-small ByElement e o = rw e (omega (arith, most))
+  written-small Vector e o = rw e (omega (arith, most))
   written-small Saturating e o = rw e (omega (arith, most))
   written-small LongLong e o = rw e (omega (arith, in-groups (o .0)))
   written-small Long e o = rw e (omega (arith, in-groups (o .0)))

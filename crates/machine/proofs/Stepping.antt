@@ -16,15 +16,19 @@ use Rattle.words.specs.declared.Fields.{Fields}
 use Rattle.bits.specs.Bits.{overBytes, rose, fell, rises, falls, toggles}
 use Rattle.bits.specs.declared.Toggles.{Toggles}
 use Rattle.bits.proofs.Bits.{Unmoved, rose-unmoved, fell-unmoved, bytes-same}
-use Rattle.recipes.specs.Recipe.{newLength, perSource}
-use Rattle.machine.specs.Step.{zAfter, zaAfter}
+use Rattle.recipes.specs.Recipe.{perSource}
+use Rattle.machine.specs.Step.{newRegister, zAfter, zaAfter}
 use Rattle.machine.specs.Execute.{Outcome, written, stepped, Stepped}
-use Rattle.machine.specs.Loop.{RegisterRenewed, IntoZa, Sources, Places, Ready}
+use Rattle.machine.specs.Loop.{RegisterWritten, IntoV, IntoZa, Sources, Places, Ready}
 use Rattle.machine.proofs.Registers.{register-is}
 
 -- A, B and C
 abbrev pub IntoZ : Fields → Type 0
 IntoZ f = (f .family ≡ ByElement) ⊎ ((f .family ≡ Vector) ⊎ (f .family ≡ Saturating))
+
+pub v-into-z : (f : Fields) → IntoV f → IntoZ f
+v-into-z f (inl e) = inl e
+v-into-z f (inr e) = inr (inl e)
 
 -- every family is of one kind or the other
 pub which-file : (f : Fields) → IntoZ f ⊎ IntoZa f
@@ -69,10 +73,10 @@ module _ (s : Settings) (f : Fields) (z za : List ℕ) where
   stepped-za (inr e) = rw e
 
 -- written is the bits of the vectors that the word writes
-pub written-z : (s : Settings) (f : Fields) → validSettings s ≡ true → IntoZ f → written s f ≡ 8 * newLength (f .family) (vectorBytes s)
-written-z s f v (inl e) = rw e
-written-z s f v (inr (inl e)) = rw e
-written-z s f v (inr (inr e)) = rw e (sym (vector-bits s v))
+pub written-z : (s : Settings) (f : Fields) → IntoZ f → written s f ≡ s .vl
+written-z s f (inl e) = rw e
+written-z s f (inr (inl e)) = rw e
+written-z s f (inr (inr e)) = rw e
 
 pub written-za : (s : Settings) (f : Fields) → IntoZa f → written s f ≡ s .vl * f .group * perSource (f .family)
 written-za s f (inl e) = rw e
@@ -108,10 +112,11 @@ module _ (s : Settings) (f : Fields) (z za : List ℕ) (p : Ready s z za) (g : R
   in-za t same za′ = ap (λ (n : ℕ). n + overBytes t za za′) (bytes-same t same z) ∙ zero-add (overBytes t za za′)
 
   pub z-done : IntoZ f → (t : Toggles) (z′ : List ℕ)
-      → RegisterRenewed f w t z z′
+      → RegisterWritten f w t z z′
       → Stepped s f t z za z′ za
+  unfolding newRegister
   z-done i t z′ r =
-      let r′ = subst (λ (x : ℕ). RegisterRenewed f x t z z′) ew r in
+      let r′ = subst (λ (x : ℕ). RegisterWritten f x t z z′) ew r in
       let q = stepped-z s f z za i in
       let e : z′ ≡ zAfter s f z = r′ .after ∙ register-is s (vector-length s (p .valid)) f g z (p .z-long) in
       record {

@@ -1,9 +1,9 @@
 -- The vectors of ZA that a word writes, one after the other, as the code goes, and what the code asks of its places. Only contracts and proofs use this.
-use Prim.Native.Nat.{ℕ, _+_, _*_, _/_, _%_, _≤_, _<_}
+use Prim.Native.Nat.{ℕ, _+_, _-_, _*_, _/_, _%_, _≤_, _<_}
 use mathlib.Core.Path.{_≡_}
 use mathlib.Core.Logic.{_⊎_}
 use mathlib.Core.Bool.{true}
-use mathlib.Core.List.{List}
+use mathlib.Core.List.{List, _++_}
 use lib.ListN.{length}
 use Rattle.settings.specs.Lengths.{VectorLength}
 use Rattle.settings.specs.Valid.{validSettings, vectorBytes, arrayBytes}
@@ -11,6 +11,7 @@ use Rattle.settings.specs.declared.Settings.{Settings}
 use Rattle.words.specs.Ranges.{Ranges}
 use Rattle.words.specs.declared.Family.the-variants.{ByElement, Vector, LongLong, Long}
 use Rattle.words.specs.declared.Fields.{Fields}
+use Rattle.elements.specs.Elements.{zeros}
 use Rattle.elements.specs.Files.{vectorAt}
 use Rattle.bits.specs.Replace.{Replaced}
 use Rattle.bits.specs.declared.Toggles.{Toggles}
@@ -27,9 +28,15 @@ pub record Grid (w group stride k first : ℕ) : Type 0 where
 abbrev pub made : Fields → ℕ → ℕ → ℕ → ℕ → List ℕ → ℕ → ℕ → List ℕ → List ℕ
 made f i n w v a x y z = newBytes (recipeOf (f .family) f i) n (vectorAt w v a) (vectorAt w x z) (vectorAt w y z)
 
--- the destination of a word of A, B or C became new, and t are the bits that rose and fell
+-- the new bytes of a word of A, B or C were written into its destination, and t are the bits that rose and fell
 abbrev pub RegisterRenewed : Fields → ℕ → Toggles → List ℕ → List ℕ → Type 0
 RegisterRenewed f w t z z′ = Replaced (f .destination * w) t (made f 0 (newLength (f .family) w) w (f .destination) z (f .first) (f .second) z) z z′
+
+-- the whole destination was: its new bytes, and zeros above them
+abbrev pub RegisterWritten : Fields → ℕ → Toggles → List ℕ → List ℕ → Type 0
+RegisterWritten f w t z z′ =
+    Replaced (f .destination * w) t
+    (made f 0 (newLength (f .family) w) w (f .destination) z (f .first) (f .second) z ++ zeros (w - newLength (f .family) w)) z z′
 
 -- the q-th vector that a word of ZA writes: r is q / k and i is q % k
 unfoldable pub place : ℕ → ℕ → ℕ → ℕ → ℕ

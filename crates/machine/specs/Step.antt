@@ -3,10 +3,11 @@ use Prim.Native.Nat.{ℕ, zero, suc, _+_, _-_, _*_, _/_, _%_}
 use mathlib.Core.Bool.{Bool, false, _||_}
 use mathlib.Core.List.{List, _++_}
 use lib.Dec.{eqb}
-use lib.ListN.{getD, drop}
+use lib.ListN.{getD}
 use Rattle.settings.specs.Valid.{vectorBytes, arrayBytes}
 use Rattle.settings.specs.declared.Settings.{Settings}
 use Rattle.words.specs.declared.Fields.{Fields}
+use Rattle.elements.specs.Elements.{zeros}
 use Rattle.elements.specs.Files.{vectorAt, renewed}
 use Rattle.recipes.specs.Recipe.{recipeOf, newLength, perSource}
 use Rattle.lanes.specs.Element.{newBytes}
@@ -17,11 +18,12 @@ register s z r = vectorAt (vectorBytes s) r z
 
 -- ---- A, B, C: into Z
 
--- the destination after the step: its new bytes, and above them those that it had
+-- the destination after the step: its new bytes, and zeros above them, since "writing a V register sets the rest of the Z register to zero"
+-- (document 02). C's bytes are all new
 unfoldable pub newRegister : Settings → Fields → List ℕ → List ℕ
 newRegister s f z =
     newBytes (recipeOf (f .family) f 0) (newLength (f .family) (vectorBytes s)) (register s z (f .destination)) (register s z (f .first)) (register s z (f .second))
-    ++ drop (newLength (f .family) (vectorBytes s)) (register s z (f .destination))
+    ++ zeros (vectorBytes s - newLength (f .family) (vectorBytes s))
 
 -- Z after the step: the destination is new, and every other register as it was
 unfoldable pub zAfter : Settings → Fields → List ℕ → List ℕ

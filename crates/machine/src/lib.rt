@@ -10,7 +10,7 @@ ghost use Rattle.bits.specs.Replace.{Replaced};
 ghost use Rattle.recipes.specs.Recipe.{perSource};
 ghost use Rattle.machine.specs.Modes.{permits};
 ghost use Rattle.machine.specs.Step.{zaAfter};
-ghost use Rattle.machine.specs.Loop.{made, RegisterRenewed, Grid, place, becomes, IntoV, Sources, Places, Ready};
+ghost use Rattle.machine.specs.Loop.{made, RegisterRenewed, RegisterWritten, Grid, place, becomes, IntoV, Sources, Places, Ready};
 ghost use Rattle.machine.specs.Execute.{executedSays, written, stepped, Stepped, rightLengths, ExecutePromise};
 ghost use Rattle.machine.specs.Run.{reportOf, fourOf};
 ghost use Rattle.machine.specs.declared.Executed.the-variants.{Done};
@@ -48,7 +48,7 @@ pub struct Reported {
     pub written: u32,
 }
 
-// A, B: the low 16 bytes of the destination become new; registers have w bytes. In A each element takes the one lane at the index of the second
+// A, B: the V register, the low 16 bytes of the destination, becomes new; registers have w bytes. In A each element takes the one lane at the index of the second
 // source, and in B its own. Answers how many bits rose and fell.
 fn step_v(fields: Fields, w: usize, z: &mut [u8]) -> Toggles
     requires { ⌜ Sources fields w (now z) ⌝ }
@@ -69,6 +69,25 @@ fn step_v(fields: Fields, w: usize, z: &mut [u8]) -> Toggles
             chunks::renew_v(lane, unsigned, subtract, z, at, x, y + index, 0)
         }
         _ => chunks::renew_v(lane, unsigned, subtract, z, at, x, y + part, 1),
+    }
+}
+
+// A, B: the V register is written, which sets the rest of its Z register to zero. It comes last: a destination that is a source was read by then, and
+// no word reads above the low 16 bytes of a source. Answers how many bits rose and fell.
+fn write_v(fields: Fields, w: usize, z: &mut [u8]) -> Toggles
+    requires { ⌜ Sources fields w (now z) ⌝ }
+    requires { ⌜ IntoV fields ⌝ }
+    ensures { λ t. ⌜ RegisterWritten fields w t (now (z .entry)) (now (z .exit)) ⌝ }
+{
+    let toggles = step_v(fields, w, z);
+    if w == 16 {
+        return toggles;
+    }
+    let above = fields.destination as usize * w + 16;
+    let cleared = bits::clear(z, above, w - 16);
+    Toggles {
+        rises: toggles.rises,
+        falls: toggles.falls + cleared,
     }
 }
 
@@ -214,8 +233,8 @@ fn written_bits(settings: Settings, fields: Fields) -> u32
     let group = fields.group;
     let family = fields.family;
     match family {
-        Family::ByElement => 128,
-        Family::Vector => 128,
+        Family::ByElement => vl,
+        Family::Vector => vl,
         Family::Saturating => vl,
         Family::LongLong => vl * group * 4,
         Family::Long => vl * group * 2,
@@ -244,8 +263,7 @@ fn step_files(settings: Settings, fields: Fields, w: usize, z: &mut [u8], za: &m
 {
     let family = fields.family;
     match family {
-        Family::ByElement => step_v(fields, w, z),
-        Family::Vector => step_v(fields, w, z),
+        Family::ByElement | Family::Vector => write_v(fields, w, z),
         Family::Saturating => step_saturating(fields, w, z),
         _ => step_array(settings, fields, per_source(family), z, za),
     }

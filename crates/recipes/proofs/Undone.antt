@@ -76,18 +76,14 @@ module _ (r : Recipe) (wide : IsWidth (r .wide)) (wraps : r .saturating ≡ fals
       vector-known (newElement (opposite r) x first second) k (8 * bytes / r .wide) (take bytes old) (Bytes-take bytes old b)
       (length-take-le bytes old room ∙ sym (whole-elements (r .wide) wide bytes whole)) undone
 
--- the same of a vector whose first bytes are new; `q` is the opposite recipe, and `now`, `first′` and `second′` are what it finds
-pub undo-vector : (r q : Recipe) (bytes : ℕ) (old first second now first′ second′ : List ℕ) → q ≡ opposite r → IsWidth (r .wide) → r .saturating ≡ false
-    → bytes % 8 ≡ 0 → Bytes old → bytes ≤ length old → now ≡ newBytes r bytes old first second ++ drop bytes old → first′ ≡ first → second′ ≡ second
-    → newBytes q bytes now first′ second′ ++ drop bytes now ≡ old
-undo-vector r q bytes old first second now first′ second′ eq wide wraps whole b room en ef es =
+-- the same of a vector whose first bytes are new, whatever is above them; `q` is the opposite recipe, and `now`, `first′` and `second′` are what it finds
+pub undo-vector : (r q : Recipe) (bytes : ℕ) (old first second above now first′ second′ : List ℕ) → q ≡ opposite r → IsWidth (r .wide) → r .saturating ≡ false
+    → bytes % 8 ≡ 0 → Bytes old → bytes ≤ length old → now ≡ newBytes r bytes old first second ++ above → first′ ≡ first → second′ ≡ second
+    → newBytes q bytes now first′ second′ ≡ take bytes old
+undo-vector r q bytes old first second above now first′ second′ eq wide wraps whole b room en ef es =
     let x : List ℕ = newBytes r bytes old first second in
-    let long : length x ≡ bytes = length-new r bytes old first second wide whole in
     rw (eq, en, ef, es)
-    (ap₂ _++_
-    (undo-newBytes r wide wraps bytes whole old first second b room (x ++ drop bytes old) (take-at x (drop bytes old) bytes long))
-    (drop-at x (drop bytes old) bytes long)
-    ∙ take-append-drop bytes old)
+    (undo-newBytes r wide wraps bytes whole old first second b room (x ++ above) (take-at x above bytes (length-new r bytes old first second wide whole)))
 
 -- and of a vector that is new altogether
 pub undo-whole : (r q : Recipe) (bytes : ℕ) (old first second now : List ℕ) → q ≡ opposite r → IsWidth (r .wide) → r .saturating ≡ false → bytes % 8 ≡ 0

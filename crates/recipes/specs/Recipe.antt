@@ -34,7 +34,7 @@ recipeOf Saturating f i = bySegment true false (f .subtract) (f .lane) (f .part)
 recipeOf LongLong f i = wrapping f 4 (each 4 i) (each 4 i)
 recipeOf Long f i = wrapping f 2 (each 2 i) (each 2 i)
 
--- the bytes of a written vector of w that are new: the V register's 16 in A and B, all in the others
+-- the bytes of a written vector of w that its elements fill: the V register's 16 in A and B, all in the others
 abbrev pub newLength : Family → ℕ → ℕ
 newLength ByElement w = 16
 newLength Vector w = 16
