@@ -1,5 +1,5 @@
--- Demand 3 on numbers: a sweep that closes, and for each premise on the words a word that fails it and whose sweep does not close. So each is
--- needed.
+-- Demand 3 on numbers: sweeps that close, and for each premise on the words, and that on Z, a word that fails it and whose sweep does not close. So
+-- each is needed.
 use Prim.Native.Nat.{ℕ, _*_, _/_, _%_}
 use mathlib.Core.Path.{_≡_, refl}
 use mathlib.Core.Bool.{cond}

@@ -37,7 +37,7 @@ abbrev pub executedSays : Executed → List ℕ → List ℕ → Outcome
 executedSays (Done c) z za = record { number = 0; rises = c .rises; falls = c .falls; written = c .written; z = z; za = za }
 executedSays (Refused r) z za = refusedWith (refusalNumber r) z za
 
--- written is VL in A and B, as document 02 has it, VL in C, VL·group·4 in D, VL·group·2 in E
+-- written is VL in A and B (document 02) and in C, VL·group·4 in D, VL·group·2 in E
 abbrev pub written : Settings → Fields → ℕ
 written s f = elim (f .family) [ ByElement ↦ s .vl | Vector ↦ s .vl | Saturating ↦ s .vl | LongLong ↦ s .vl * f .group * 4 | Long ↦ s .vl * f .group * 2 ]
 

@@ -48,8 +48,8 @@ pub struct Reported {
     pub written: u32,
 }
 
-// A, B: the V register, the low 16 bytes of the destination, becomes new; registers have w bytes. In A each element takes the one lane at the index of the second
-// source, and in B its own. Answers how many bits rose and fell.
+// A, B: the V register, the low 16 bytes of the destination, becomes new; registers have w bytes. In A each element takes the one lane at the index of
+// the second source, and in B its own. Answers how many bits rose and fell.
 fn step_v(fields: Fields, w: usize, z: &mut [u8]) -> Toggles
     requires { ⌜ Sources fields w (now z) ⌝ }
     requires { ⌜ IntoV fields ⌝ }
@@ -72,8 +72,8 @@ fn step_v(fields: Fields, w: usize, z: &mut [u8]) -> Toggles
     }
 }
 
-// A, B: the V register is written, which sets the rest of its Z register to zero. It comes last: a destination that is a source was read by then, and
-// no word reads above the low 16 bytes of a source. Answers how many bits rose and fell.
+// A, B: the V register is written, which sets the rest of its Z register to zero; where registers have 16 bytes there is none. The zeros come last, so
+// that a destination that is a source has been read; and of a source no word reads more than the low 16 bytes. Answers how many bits rose and fell.
 fn write_v(fields: Fields, w: usize, z: &mut [u8]) -> Toggles
     requires { ⌜ Sources fields w (now z) ⌝ }
     requires { ⌜ IntoV fields ⌝ }
