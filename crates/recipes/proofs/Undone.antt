@@ -1,11 +1,11 @@
 -- A new vector is undone by the opposite recipe on the same sources, except where products saturate. Assumes nothing.
 use Prim.Native.Nat.{ℕ, _*_, _/_, _%_, _^_, _≤_, _<_}
 use native.Mathlib.Omega.{arith}
-use mathlib.Core.Path.{_≡_, refl, sym, ap, ap₂, _∙_}
+use mathlib.Core.Path.{_≡_, refl, sym, ap, _∙_}
 use mathlib.Core.Bool.{Bool, false, not}
 use mathlib.Core.List.{List, _++_}
-use lib.ListN.{length, take, drop, take-append-drop}
-use lib.Seq.{take-all, take-at, drop-at, length-take-le}
+use lib.ListN.{length, take}
+use lib.Seq.{take-all, take-at, length-take-le}
 use Rattle.words.specs.Partner.{turned, isC}
 use Rattle.words.specs.declared.Family.{Family}
 use Rattle.words.specs.declared.Family.the-variants.{ByElement, Vector, Saturating, LongLong, Long}

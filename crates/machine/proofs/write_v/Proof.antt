@@ -1,5 +1,5 @@
 -- `machine::write_v` meets its contract: the V register's new bytes, and zeros behind them. Assumes nothing.
-use mathlib.Core.Path.{_≡_, sym, _∙_}
+use mathlib.Core.Path.{sym, _∙_}
 use native.Mathlib.Omega.{arith}
 use borrow.Author.Needs.{needs}
 use Rattle.machine.proofs.Renewal.{v-length, register-small, none-above, clear-there, falls-small, all-written}
