@@ -26,7 +26,7 @@ use Rattle.machine.specs.Execute.{stepped, executePaper}
 use Rattle.machine.specs.Run.{Report, Run}
 use Rattle.demands.specs.Execution.{ClearAbove}
 use Rattle.demands.specs.Sweep.{SourcesApart, ClearIfV, ofPartner}
-use Rattle.demands.specs.SweepExamples.{Given, sweepSettings, startZ, startZa, Answer, sweepAnswer, ownFirst, ownSecond, saturates, unknown, wrongMode, notClear, intoZa}
+use Rattle.demands.specs.SweepExamples.{Given, sweepSettings, startZ, startZa, Answer, sweepAnswer, ownFirst, ownSecond, saturates, unknown, wrongMode, wide, notClear, intoZa}
 use Rattle.demands.specs.SweepExamples.{answers-hold}
 use Rattle.demands.specs.SweepExamples.{closing, ClosesFrom, AllBytes, AllAccepted, NoneSaturating, NoneItsOwnSource, AllClear, Met, AllMet, StaysOpen, EachNeeded}
 use Rattle.demands.proofs.Sweep.{sweep-closes, clear-at-128}
@@ -113,9 +113,9 @@ met g accepted wrapping sources clear = (
   sweep-closes (sweepSettings g) (g .words) (startZ g) (startZa g) (all-bytes g .0) (all-bytes g .1) accepted wrapping sources clear,
 )
 
--- Z between the two words
-abbrev between : List ℕ
-between = executePaper (sweepSettings closing) 0x0E228020 (startZ closing) (startZa closing) .z
+-- at VL 128 nothing is asked of Z
+clear-128 : (g : Given) → g .vl ≡ 128 → AllClear g
+clear-128 g e = clear-at-128 (sweepSettings g) (g .words) (startZ g) (startZa g) e
 
 pub all-met : AllMet
 unfolding decodePaper decodeEnabled describe enables validSettings vectorBytes arrayBytes executePaper stepped zAfter
@@ -123,19 +123,17 @@ unfolding decodePaper decodeEnabled describe enables validSettings vectorBytes a
 all-met = (
   met closing (refl, (refl, tt))
       (by-fields (decoded closing 0x0E228020) Wraps (not-c _ .1 refl), (by-fields (decoded closing 0x0E208023) Wraps (not-c _ .1 refl), tt))
-      (by-fields (decoded closing 0x0E228020) Sources (apart 0 1 2 refl refl), (by-fields (decoded closing 0x0E208023) Sources (apart 3 1 0 refl refl), tt)) (
-        by-fields (decoded closing 0x0E228020) (Clear closing (startZ closing)) (clear-by (sweepSettings closing) 0 32 (startZ closing) refl refl),
-        (by-fields (decoded closing 0x0E208023) (Clear closing between) (clear-by (sweepSettings closing) 3 32 between refl refl), tt),
-      ),
+      (by-fields (decoded closing 0x0E228020) Sources (apart 0 1 2 refl refl), (by-fields (decoded closing 0x0E208023) Sources (apart 3 1 0 refl refl), tt))
+      (clear-128 closing refl),
+  met wide (refl, tt)
+      (by-fields (decoded wide 0x0E228020) Wraps (not-c _ .1 refl), tt)
+      (by-fields (decoded wide 0x0E228020) Sources (apart 0 1 2 refl refl), tt)
+      (by-fields (decoded wide 0x0E228020) (Clear wide (startZ wide)) (clear-by (sweepSettings wide) 0 32 (startZ wide) refl refl), tt),
   met intoZa (refl, tt)
       (by-fields (decoded intoZa 0xC1A20008) Wraps (not-c _ .1 refl), tt)
       (by-fields (decoded intoZa 0xC1A20008) Sources tt, tt)
       (by-fields (decoded intoZa 0xC1A20008) (Clear intoZa (startZ intoZa)) tt, tt),
 )
-
--- at VL 128 nothing is asked of Z
-clear-128 : (g : Given) → g .vl ≡ 128 → AllClear g
-clear-128 g e = clear-at-128 (sweepSettings g) (g .words) (startZ g) (startZa g) e
 
 pub each-needed : EachNeeded
 unfolding nth first-number decodePaper decodeEnabled describe enables validSettings vectorBytes arrayBytes executePaper stepped vector

@@ -67,11 +67,15 @@ sweepAnswer bytes r e g =
 
 -- ---- the sweeps
 
--- at VL 256: the destination of the first word, 0, is a source of the second, so the way back must begin with the second
+-- the destination of the first word, 0, is a source of the second, so the way back must begin with the second
 abbrev pub closing : Given
-closing = record { vl = 256; features = 1; modes = 0; words = 0x0E228020 ∷ 0x0E208023 ∷ []; each = 0x0101; above = 0 }
+closing = record { vl = 128; features = 1; modes = 0; words = 0x0E228020 ∷ 0x0E208023 ∷ []; each = 0x0101; above = 0 }
 
--- the same first word where register 0 is not clear above byte 16: the word clears it, and its partner finds nothing to bring back
+-- the first word at VL 256, where register 0 is clear from byte 16 on
+abbrev pub wide : Given
+wide = record { vl = 256; features = 1; modes = 0; words = 0x0E228020 ∷ []; each = 0x0101; above = 0 }
+
+-- the same where register 0 is not clear: the word clears it, and its partner finds nothing to bring back
 abbrev pub notClear : Given
 notClear = record { vl = 256; features = 1; modes = 0; words = 0x0E228020 ∷ []; each = 0x0101; above = 0x0101 }
 
@@ -118,7 +122,7 @@ line bytes register place given start after returned forward backward =
 
 abbrev pub sweeps : List Line
 sweeps =
-    line 2 3 0 closing 0x0101 0x0103 0x0101 ((0, 8, 8, 256) ∷ (0, 8, 4, 256) ∷ []) ((0, 4, 8, 256) ∷ (0, 8, 8, 256) ∷ [])
+    line 2 3 0 closing 0x0101 0x0103 0x0101 ((0, 8, 8, 128) ∷ (0, 8, 4, 128) ∷ []) ((0, 4, 8, 128) ∷ (0, 8, 8, 128) ∷ [])
     ∷ line 2 1 0 ownFirst 0x0101 0x0102 0x0100 ((0, 8, 8, 128) ∷ []) ((0, 4, 8, 128) ∷ [])
     ∷ line 2 2 0 ownSecond 0x0101 0x0102 0x0100 ((0, 8, 8, 128) ∷ []) ((0, 4, 8, 128) ∷ [])
     -- `partner` refuses it. By hand it does not come back either: see `flipped`
@@ -174,9 +178,9 @@ AllClear g = ClearInTurn (sweepSettings g) (g .words) (startZ g) (startZa g)
 abbrev pub Met : Given → Type 0
 Met g = AllBytes g × AllAccepted g × NoneSaturating g × NoneItsOwnSource g × AllClear g × ClosesFrom g
 
--- the first meets every premise, so the premises can be met together; a word of D meets them where Z is not clear
+-- these meet every premise, so the premises can be met together, also at VL 256; and a word of D meets them where Z is not clear
 abbrev pub AllMet : Type 0
-AllMet = Met closing × Met intoZa
+AllMet = Met closing × Met wide × Met intoZa
 
 -- a sweep that does not close, and what it meets
 pub record StaysOpen (g : Given) (Meets : Type 0) : Type 0 where
