@@ -11,15 +11,12 @@
  *     D       smlall smlsll umlall umlsll, into ZA               SME2; for lanes   SM and ZA on
  *                                                                of 16 I16I64 too
  *     E       smlal smlsl umlal umlsl, into ZA                   SME2              SM and ZA on
- *     F       smlalb smlalt smlslb smlslt, and the same with u   SVE2 or SME       SM on, or SVE2
- *             for s in front, by element
  *
  *     A  6F536841  umlsl2 v1.4s, v2.8h, v3.h[5]
  *     B  0E238041  smlal v1.8h, v2.8b, v3.8b
  *     C  44B32841  sqdmlalb z1.s, z2.h, z3.h[5]
  *     D  C1A20008  smlsll za.s[w8, 0:3, vgx2], { z0.b-z1.b }, { z2.b-z3.b }
  *     E  C1FD6813  umlal za.s[w11, 6:7, vgx4], { z0.h-z3.h }, { z28.h-z31.h }
- *     F  44F3BC41  umlslt z1.d, z2.s, z3.s[3]
  *
  * What C must keep to, since nothing checks it:
  *   - no pointer is NULL, also where the length beside it is 0;
@@ -36,10 +33,10 @@
 #include <stddef.h>
 #include <stdint.h>
 
-/* The version, 4.0.0, as one number: ten thousands are its major number, hundreds its minor one. The major number is
+/* The version, 3.0.0, as one number: ten thousands are its major number, hundreds its minor one. The major number is
  * another where a caller has to change something, as where an array is longer or an answer comes out otherwise;
  * CHANGELOG.md says what. */
-#define CALLINGLAMP_VERSION 40000
+#define CALLINGLAMP_VERSION 30000
 
 #ifdef __cplusplus
 extern "C" {
@@ -93,8 +90,8 @@ static inline const char *callinglamp_refusal_text(uint32_t number)
     case 0: return "accepted";
     case 1: return "the settings are not valid: VL, the features or the modes";
     case 2: return "Z, ZA or the report does not have the length that is due";
-    case 3: return "the word is none of the six families, its size is reserved, or the settings lack a feature of it";
-    case 4: return "the modes do not permit the word: A and B need SM off, C and F SM on or SVE2, D and E SM and ZA on";
+    case 3: return "the word is none of the five families, its size is reserved, or the settings lack a feature of it";
+    case 4: return "the modes do not permit the word: A and B need SM off, C SM on or SVE2, D and E SM and ZA on";
     case 5: return "no word has these fields";
     case 6: return "the word is of family C, which has no partner";
     case 7: return "the list ends too early: inside a number or the Z bytes, or before a number that is due";
@@ -141,9 +138,9 @@ enum {
     CALLINGLAMP_FIELD_UNSIGNED = 1,    /* 1 is unsigned; C has 0 */
     CALLINGLAMP_FIELD_SUBTRACT = 2,    /* 1 subtracts */
     CALLINGLAMP_FIELD_LANE = 3,        /* 8, 16 or 32 bits */
-    CALLINGLAMP_FIELD_PART = 4,        /* A, B: the half of the first source; C, F: 0 bottom, 1 top */
-    CALLINGLAMP_FIELD_INDEX = 5,       /* A, C, F: the element of the second source */
-    CALLINGLAMP_FIELD_DESTINATION = 6, /* A, B, C, F: the register that changes */
+    CALLINGLAMP_FIELD_PART = 4,        /* A, B: the half of the first source; C: 0 bottom, 1 top */
+    CALLINGLAMP_FIELD_INDEX = 5,       /* A, C: the element of the second source */
+    CALLINGLAMP_FIELD_DESTINATION = 6, /* A, B, C: the register that changes */
     CALLINGLAMP_FIELD_FIRST = 7,       /* the first source, or the first register of it */
     CALLINGLAMP_FIELD_SECOND = 8,      /* the second source, or the first register of it */
     CALLINGLAMP_FIELD_GROUP = 9,       /* D, E: 2 or 4 */
@@ -157,8 +154,7 @@ enum {
     CALLINGLAMP_FAMILY_VECTOR = 2,     /* B */
     CALLINGLAMP_FAMILY_SATURATING = 3, /* C */
     CALLINGLAMP_FAMILY_LONG_LONG = 4,  /* D */
-    CALLINGLAMP_FAMILY_LONG = 5,       /* E */
-    CALLINGLAMP_FAMILY_BY_INDEX = 6    /* F */
+    CALLINGLAMP_FAMILY_LONG = 5        /* E */
 };
 
 /* What a word says.
@@ -170,15 +166,15 @@ uint64_t callinglamp_decode(const uint32_t settings[7], uint32_t word, uint32_t 
 
 /* The word that has just these fields. It is the answer's value.
  *   settings  as above
- *   fields    any numbers; those that are no fields (family not 1 to 6, unsigned or subtract above 1) belong to no word
+ *   fields    any numbers; those that are no fields (family not 1 to 5, unsigned or subtract above 1) belong to no word
  * Refused with 1; 5 where no word of the family's layout has exactly these fields, a field that the family lacks
  * included; 3 where the settings lack a feature. */
 uint64_t callinglamp_encode(const uint32_t settings[7], const uint32_t fields[12]);
 
 /* The word with S flipped: the same word, but that it subtracts where the other adds. It is the answer's value.
  * Run next, it leads back to where its word began, with the word's rises as falls and its falls as rises. For a word of
- * A, B or F that holds where its destination is no source of it, and for one of A or B where the destination has zeros
- * from byte 16 on before the word runs: what a word clears there no partner brings back.
+ * A or B that holds where its destination is no source of it and has zeros from byte 16 on before the word runs: what a
+ * word clears there no partner brings back.
  *   settings  as above
  *   word      any number: the word
  * Refused with 1; 3 as in decode; 6 where the word is of family C. */
@@ -187,8 +183,8 @@ uint64_t callinglamp_partner(const uint32_t settings[7], uint32_t word);
 /* counts[3]: rises, falls, written.
  *   rises    the number of bits of Z and ZA that were 0 and are 1
  *   falls    the number of bits of Z and ZA that were 1 and are 0
- *   written  the number of bits that the word writes, whether they change or not: VL in A, B, C and F, VL * group * 4
- *            in D and VL * group * 2 in E
+ *   written  the number of bits that the word writes, whether they change or not: VL in A, B and C, VL * group * 4 in D
+ *            and VL * group * 2 in E
  * Toggled, the number of bits that changed, is rises + falls. */
 enum { CALLINGLAMP_COUNTS = 3 };
 
@@ -202,7 +198,7 @@ enum { CALLINGLAMP_COUNTS = 3 };
  * zero, as Arm's manual says. The bits that this clears are falls. At VL 128 there is no rest. Its sources are read
  * first, and of them nothing but the low 16 bytes.
  * Refused with 1; 2 where a length is not exact, whatever the family; 3 as in decode; 4 where the modes do not permit
- * the family: A and B need SM off, C and F need SM on or SVE2, D and E need SM and ZA on. */
+ * the family: A and B need SM off, C needs SM on or SVE2, D and E need SM and ZA on. */
 uint64_t callinglamp_execute(const uint32_t settings[7], uint32_t word, uint8_t *z, size_t z_length, uint8_t *za,
                              size_t za_length, uint32_t counts[3]);
 

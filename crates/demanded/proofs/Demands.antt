@@ -90,7 +90,6 @@ demand_2 =
       in_c = execution.saturating-step;
       in_d = execution.long_long-step;
       in_e = execution.long-step;
-      in_f = execution.by_index-step;
       first-vector = execution.first-vector;
       vectors_exact = execution.writes_exactly;
       vectors_distinct = execution.vectors_distinct;

@@ -1,21 +1,17 @@
 -- The records of specs/Requests.antt, proved. Assumes nothing.
 use Prim.Native.Nat.{ℕ, ◌≤◌}
-use mathlib.Core.Path.{◌≡◌, refl, sym, ap, ◌∙◌, subst}
-use mathlib.Core.Logic.{◌≢◌}
+use mathlib.Core.Path.{◌≡◌, refl, ap, subst}
 use mathlib.Core.Bool.{true, false}
-use mathlib.Core.List.{List, [], ◌∷◌, ◌++◌, map}
+use mathlib.Core.List.{List, [], ◌++◌}
 use lib.ListN.{length, drop}
 use borrow.Author.Tests.{le-leb}
 use Rattle.settings.specs.declared.Settings.{Settings}
 use Rattle.words.specs.Says.{describe}
 use Rattle.words.specs.Kinds.{fields_said}
 use Rattle.words.specs.Decode.{decode_paper}
-use Rattle.words.specs.Partner.{partner_word, turned, is_c, partner_paper}
-use Rattle.words.specs.declared.Family.{Family}
-use Rattle.words.specs.declared.Family.TheVariants.{ByIndex}
 use Rattle.words.specs.declared.Fields.{Fields}
 use Rattle.words.proofs.Table.{described_exactly}
-use Rattle.words.proofs.Answers.{decodes_exactly, not_c, partner_accepted}
+use Rattle.words.proofs.Answers.{decodes_exactly}
 use Rattle.pieces.specs.Pieces.{text, decimal, decimal_up_to}
 use Rattle.syntax.specs.Syntax.{fill}
 use Rattle.spelling.specs.Spell.{spell, row_for, letter_values}
@@ -23,13 +19,10 @@ use Rattle.spelling.specs.Rows.{syntax_at}
 use Rattle.spelling.specs.Print.{print_paper}
 use Rattle.spelling.proofs.Theorems as texts
 use Rattle.spelling.proofs.Longest as longest
-use Rattle.elements.specs.Elements.{Bytes}
-use Rattle.demands.specs.Execution.{Accepted}
-use Rattle.demands.specs.Sweep.{SourcesApart, ClearIfV, Closes}
 use Rattle.demands.proofs.Execution as execution
 use Rattle.demands.proofs.Sweep as sweep
 use Rattle.demands.proofs.Balance as balance
-use Rattle.demanded.specs.Requests.{RequestOne, RequestTwo, RequestThree, four_words, four_texts, RequestFour}
+use Rattle.demanded.specs.Requests.{RequestOne, RequestTwo, RequestThree}
 
 of_c1a20008 : (s : Settings) (f : Fields) → decode_paper s 0xC1A20008 ≡ (0, f)
     → spell false f ≡ text "smlsll za.s[w8, 0:3, vgx2], { z0.b-z1.b }, { z2.b-z3.b }"
@@ -72,35 +65,3 @@ request_two =
 
 pub request_three : RequestThree
 request_three = record { cleared_fall = execution.cleared_counted; same-at_128 = execution.at_128; asked_at_128 = sweep.clear-at_128 }
-
-texts_are : map (λ (w : ℕ). spell false (fields_said (describe w))) four_words ≡ map text four_texts
-unfolding describe spell letter_values row_for syntax_at fill decimal decimal_up_to
-texts_are = refl
-
--- what a word decodes to is one thing
-one_decoding : (s : Settings) (w : ℕ) (P : Fields → Type 0) (f : Fields) → decode_paper s w ≡ (0, f) → P f → (g : Fields) → decode_paper s w ≡ (0, g) → P g
-one_decoding s w P f e p g d = subst P (ap (λ (x : ℕ × Fields). x.1) (sym e ∙ d)) p
-
-partner-given : (s : Settings) (w : ℕ) (f : Fields) → decode_paper s w ≡ (0, f) → f.family ≡ ByIndex
-    → (partner_paper s w ≡ (0, partner_word w)) × (decode_paper s (partner_word w) ≡ (0, turned f))
-partner-given s w f e q = let p = partner_accepted s w f e (ap is_c q) in (p.0, p.1.decodes)
-
-undone : (s : Settings) (w : ℕ) (f : Fields) (z za : List ℕ) → Bytes z → Bytes za → Accepted s w f z za → f.family ≡ ByIndex
-    → f.destination ≢ f.first → f.destination ≢ f.second → Closes s (w ∷ []) z za
-undone s w f z za bz bza a q first second =
-    sweep.sweep-closes s (w ∷ []) z za bz bza
-    ((execution.accepted_exactly s w z za).1 (f, a), tt)
-    (λ g d. (not_c g.family).1 (one_decoding s w (λ (h : Fields). is_c h.family ≡ false) f a.decodes (ap is_c q) g d), tt)
-    (λ g d. one_decoding s w (λ (h : Fields). SourcesApart h.family h) f a.decodes (subst (λ (x : Family). SourcesApart x f) (sym q) (first, second)) g d, tt)
-    (λ g d. one_decoding s w (λ (h : Fields). ClearIfV h.family s h z) f a.decodes (subst (λ (x : Family). ClearIfV x s f z) (sym q) tt) g d, tt)
-
-pub request-four : RequestFour
-request-four =
-    record {
-      texts = texts_are;
-      same_elements = λ f. record { lane = refl; wide = refl; first = refl; second = refl };
-      same_features = λ features lane. refl;
-      same_modes = λ features modes. refl;
-      partner-given = partner-given;
-      undone = undone;
-    }

@@ -6,7 +6,7 @@ use Rattle.settings.specs.Valid.{valid_settings}
 use Rattle.settings.specs.declared.Settings.{Settings}
 use Rattle.words.specs.Says.{table, SaidBy}
 use Rattle.words.specs.Decode.{enables, decode_paper}
-use Rattle.words.specs.declared.Family.TheVariants.{ByElement, Vector, Saturating, LongLong, Long, ByIndex}
+use Rattle.words.specs.declared.Family.TheVariants.{ByElement, Vector, Saturating, LongLong, Long}
 use Rattle.words.specs.declared.Fields.{Fields}
 use Rattle.words.specs.declared.Decoded.{Decoded}
 use Rattle.words.specs.declared.Partnered.{Partnered}
@@ -18,7 +18,7 @@ use Rattle.spelling.specs.Language.{Reads}
 use Rattle.spelling.specs.declared.Printed.{Printed}
 use Rattle.spelling.specs.declared.WordRead.{WordRead}
 use Rattle.demands.specs.Execution.{LengthIsVl, AcceptedExactly, AlwaysInOrder, Always, KeepsIfRefused, SameLengths, StillBytes, CountsToggled, AtMostWritten, FewWritten}
-use Rattle.demands.specs.Execution.{Whenever, ElementsA, ElementsB, ElementsC, ElementsZa, ElementsF, WrittenIs, WheneverV, ClearsAbove, ZElsewhere, ElsewhereZa, WheneverZa, First, Distinct, Exact}
+use Rattle.demands.specs.Execution.{Whenever, ElementsA, ElementsB, ElementsC, ElementsZa, WrittenIs, WheneverV, ClearsAbove, ZElsewhere, ElsewhereZa, WheneverZa, First, Distinct, Exact}
 use Rattle.demands.specs.Sweep.{SweepCloses, UndoAccepts, PartnersAccepted}
 use Rattle.demands.specs.SweepExamples.{AllMet, EachNeeded}
 use Rattle.demands.specs.Calls.{CallersSee}
@@ -124,8 +124,6 @@ pub record Demand2 : Type 0 where
   -- "let k be 4 in D, 2 in E .. at each element e of k·lane bits, the product of elements k·e+i of Z registers n+r and m+r, modulo 2 to the width"
   pub in_d : Whenever LongLong (ElementsZa 4)
   pub in_e : Whenever Long (ElementsZa 2)
-  -- F: "They read elements as family C does, multiply signed or unsigned, do not double, and wrap" (document 02)
-  pub in_f : Whenever ByIndex ElementsF
   -- "Stride is (VL/8)/group. The first vector is (W+offset) mod stride, rounded down to a multiple of k"
   pub first-vector : WheneverZa (λ k s f z za o. First k s f)
   -- "For r below group and i below k, vector first + r·stride + i of ZA": these vectors and no others, each once
@@ -140,8 +138,7 @@ pub record Demand2 : Type 0 where
   pub bytes_stay : Always StillBytes
   -- "Toggled is the number of bits that differ in Z and ZA before and after"; of them some rise, and the others fall (RequestTwo)
   pub toggled_exact : Always CountsToggled
-  -- "Their written count becomes VL", in A and B (document 02); "VL in C, VL·group·4 in D, VL·group·2 in E"; F: "written is VL" (document 02); VL is
-  -- the length of a register
+  -- "Their written count becomes VL", in A and B (document 02); "VL in C, VL·group·4 in D, VL·group·2 in E"; VL is the length of a register
   pub written_exact : WrittenIs
   pub length_is_vl : LengthIsVl
   pub toggled_at_most_written : Always AtMostWritten
@@ -152,8 +149,8 @@ pub record Demand2 : Type 0 where
 
 -- "Words accepted in their turn, none saturating, none that writes a vector register naming its destination as a source: from the end state each
 -- word's partner, in reverse order, is accepted, every byte returns, and each partner reports its word's counts": by document 02 "a partner's rises are
--- its word's falls, and the other way round", there is a premise more (`ClearInTurn`), "before each A or B word runs, its destination has zeros from
--- byte 16 on", and F is covered "where the destination is neither source"
+-- its word's falls, and the other way round", and there is a premise more (`ClearInTurn`): "before each A or B word runs, its destination has zeros
+-- from byte 16 on"
 pub record Demand3 : Type 0 where
   pub sweep-closes : SweepCloses
   -- "each word's partner .. is accepted": by `partner` and by `execute`

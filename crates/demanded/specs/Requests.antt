@@ -1,24 +1,16 @@
 -- The landed requests of document 02, a record each, as Demands.antt has the three demands: a field is a statement that the request makes, in its
 -- words, and proofs/Requests.antt proves each record. What a request says of answers and refusals stands in Demand1.
-use Rattle.std.specs.Prelude.{ℕ, ◌≤◌, ◌≡◌, ◌≢◌, true, false, List, [], ◌∷◌, ◌++◌, map, length, drop}
-use Prim.Native.String.{String}
+use Rattle.std.specs.Prelude.{ℕ, ◌≤◌, ◌≡◌, true, false, List, ◌++◌, length, drop}
 use Rattle.settings.specs.declared.Settings.{Settings}
-use Rattle.words.specs.Says.{table, SaidBy, describe}
-use Rattle.words.specs.Decode.{enables_family, decode_paper}
-use Rattle.words.specs.Kinds.{fields_said}
-use Rattle.words.specs.Partner.{partner_word, turned, partner_paper}
-use Rattle.words.specs.declared.Family.TheVariants.{Saturating, ByIndex}
+use Rattle.words.specs.Says.{table, SaidBy}
+use Rattle.words.specs.Decode.{decode_paper}
 use Rattle.words.specs.declared.Fields.{Fields}
 use Rattle.pieces.specs.Pieces.{text}
 use Rattle.spelling.specs.Spell.{spell}
 use Rattle.spelling.specs.Print.{print_paper}
 use Rattle.spelling.specs.Language.{Spells, Reads}
-use Rattle.elements.specs.Elements.{Bytes}
-use Rattle.lanes.specs.Recipe.{Recipe}
-use Rattle.recipes.specs.Recipe.{recipe_of}
-use Rattle.machine.specs.Modes.{permits}
-use Rattle.demands.specs.Execution.{Accepted, Always, CountsEach, WheneverV, CountsCleared, SameAt128}
-use Rattle.demands.specs.Sweep.{ClearAt128, Closes}
+use Rattle.demands.specs.Execution.{Always, CountsEach, WheneverV, CountsCleared, SameAt128}
+use Rattle.demands.specs.Sweep.{ClearAt128}
 use Rattle.demands.specs.Balance.{BitsAre, Balances, RisesFromZeros, FallsFromOnes, RunBalances, ListBalances}
 use Rattle.spelling.specs.Theorems.{OneReading, PrintAfterRead, ReadAfterPrint, NoLonger, OneAsLong}
 
@@ -70,54 +62,3 @@ pub record RequestThree : Type 0 where
   pub same-at_128 : WheneverV SameAt128
   -- nor what demand 3 asks
   pub asked_at_128 : ClearAt128
-
--- Four. "They .. multiply signed or unsigned, do not double, and wrap" and "written is VL" stand in Demand2 (`in_f`, `written-exact`), that nothing else
--- changes there too (`z-stays`), and demand 3 over words of A, B, D, E and F together in Demand3
-
--- a word of each mnemonic, in both sizes
-abbrev pub four_words : List ℕ
-four_words =
-    0x44B38841 ∷ 0x44B38C41 ∷ 0x44B39841 ∷ 0x44B39C41 ∷ 0x44B3A841 ∷ 0x44B3AC41 ∷ 0x44B3B841 ∷ 0x44B3BC41
-    ∷ 0x44E38841 ∷ 0x44E38C41 ∷ 0x44E39841 ∷ 0x44E39C41 ∷ 0x44E3A841 ∷ 0x44E3AC41 ∷ 0x44E3B841 ∷ 0x44E3BC41 ∷ []
-
-abbrev pub four_texts : List String
-four_texts =
-    "smlalb z1.s, z2.h, z3.h[5]"
-    ∷ "smlalt z1.s, z2.h, z3.h[5]"
-    ∷ "umlalb z1.s, z2.h, z3.h[5]"
-    ∷ "umlalt z1.s, z2.h, z3.h[5]"
-    ∷ "smlslb z1.s, z2.h, z3.h[5]"
-    ∷ "smlslt z1.s, z2.h, z3.h[5]"
-    ∷ "umlslb z1.s, z2.h, z3.h[5]"
-    ∷ "umlslt z1.s, z2.h, z3.h[5]"
-    ∷ "smlalb z1.d, z2.s, z3.s[1]"
-    ∷ "smlalt z1.d, z2.s, z3.s[1]"
-    ∷ "umlalb z1.d, z2.s, z3.s[1]"
-    ∷ "umlalt z1.d, z2.s, z3.s[1]"
-    ∷ "smlslb z1.d, z2.s, z3.s[1]"
-    ∷ "smlslt z1.d, z2.s, z3.s[1]"
-    ∷ "umlslb z1.d, z2.s, z3.s[1]"
-    ∷ "umlslt z1.d, z2.s, z3.s[1]"
-    ∷ []
-
--- elements of the same sizes, chosen alike
-pub record SameElements (r q : Recipe) : Type 0 where
-  pub lane : r.lane ≡ q.lane
-  pub wide : r.wide ≡ q.wide
-  pub first : r.first ≡ q.first
-  pub second : r.second ≡ q.second
-
-pub record RequestFour : Type 0 where
-  -- "SMLALB, SMLALT, UMLALB, UMLALT and their subtracting forms, indexed, in both sizes of Arm's listing": what each decodes to has its text
-  pub texts : map (λ (w : ℕ). spell false (fields_said (describe w))) four_words ≡ map text four_texts
-  -- "They read elements as family C does"
-  pub same_elements : (f : Fields) → SameElements (recipe_of ByIndex f 0) (recipe_of Saturating f 0)
-  -- "Features and modes are family C's"
-  pub same_features : (features lane : ℕ) → enables_family features ByIndex lane ≡ enables_family features Saturating lane
-  pub same_modes : (features modes : ℕ) → permits features modes ByIndex ≡ permits features modes Saturating
-  -- "Refusals: as for family C, except that 6 is not given": whatever decodes has a partner, which decodes to the same with `subtract` flipped
-  pub partner-given : (s : Settings) (w : ℕ) (f : Fields) → decode_paper s w ≡ (0, f) → f.family ≡ ByIndex
-      → (partner_paper s w ≡ (0, partner_word w)) × (decode_paper s (partner_word w) ≡ (0, turned f))
-  -- "Demand 3 covers them where the destination is neither source": of Z nothing is asked
-  pub undone : (s : Settings) (w : ℕ) (f : Fields) (z za : List ℕ) → Bytes z → Bytes za → Accepted s w f z za → f.family ≡ ByIndex
-      → f.destination ≢ f.first → f.destination ≢ f.second → Closes s (w ∷ []) z za

@@ -13,7 +13,7 @@ use Rattle.settings.specs.declared.Settings.{Settings}
 use Rattle.settings.proofs.Lengths.{vector-length, array-length, vector-bits, same_length}
 use Rattle.words.specs.Ranges.{Ranges}
 use Rattle.words.specs.declared.Family.{Family}
-use Rattle.words.specs.declared.Family.TheVariants.{ByElement, Vector, Saturating, LongLong, Long, ByIndex}
+use Rattle.words.specs.declared.Family.TheVariants.{ByElement, Vector, Saturating, LongLong, Long}
 use Rattle.words.specs.declared.Fields.{Fields}
 use Rattle.elements.specs.Elements.{zeros, element_of}
 use Rattle.elements.proofs.Files.{room, length-vector_at}
@@ -27,11 +27,11 @@ use Rattle.machine.specs.Step.{register, z_after, stride, selected, first_vector
 use Rattle.machine.specs.Execute.{stepped}
 use Rattle.machine.specs.Loop.{IntoV, IntoZa}
 use Rattle.machine.proofs.Renewal.{v-length}
-use Rattle.machine.proofs.Stepping.{stepped_z, stepped_za, written_z, written-za}
+use Rattle.machine.proofs.Stepping.{v_into_z, stepped_z, stepped_za, written_z, written-za}
 use Rattle.machine.proofs.Grid.{rows_distinct, row_lt}
 use Rattle.machine.proofs.Array.{grid, first_multiple, passes}
 use Rattle.demands.specs.Execution.{vl_of, Accepted, KeepsIfRefused, SameLengths, StillBytes, CountsEach, AtMostWritten}
-use Rattle.demands.specs.Execution.{ElementsA, ElementsB, ElementsC, ElementsZa, ElementsF}
+use Rattle.demands.specs.Execution.{ElementsA, ElementsB, ElementsC, ElementsZa}
 use Rattle.demands.specs.Execution.{low_part, upper_part, ClearsAbove, CountsCleared, SameAt128, ElsewhereZ}
 use Rattle.demands.specs.Execution.{za_vector, Among, First, Distinct, Exact}
 use Rattle.demands.proofs.Effects.{z-length, z_bytes, z_few, z_elsewhere, z-low, z-above, z_counts, z-element}
@@ -117,10 +117,6 @@ module _ (s : Settings) (w : ℕ) (f : Fields) (z za : List ℕ) (a : Accepted s
   unfolding new_element step
   elements_e q r i e hr hi h = in-za Long q (inr q) r i hr hi e (rw array-bits h)
 
-  pub elements_f : f.family ≡ ByIndex → ElementsF s f z za (stepped_z s f z za)
-  unfolding new_element step
-  elements_f q e h = in_z ByIndex q e (rw (vector-bits s a.valid) h)
-
   -- ---- the upper part of a V write
 
   module _ (i : IntoV f) where
@@ -155,7 +151,7 @@ module _ (s : Settings) (w : ℕ) (f : Fields) (z za : List ℕ) (a : Accepted s
         length-vector_at w f.destination (z_after s f z)
         (room f.destination 32 w (z_after s f z) (z-length s v f g z a.z_exact ∙ a.z_exact) g.destination) in (
           sym (take_all 16 now (omega arith)) ∙ rw (← sixteen) (z-low s v f g z a.z_exact),
-          written_z s f (inl i) ∙ e,
+          written_z s f (v_into_z f i) ∙ e,
         )
 
   -- ---- what is not new

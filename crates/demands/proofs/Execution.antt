@@ -8,7 +8,7 @@ use mathlib.Core.List.{List}
 use Rattle.settings.specs.declared.Settings.{Settings}
 use Rattle.settings.proofs.Lengths.{vector-bits, same_length}
 use Rattle.words.specs.declared.Family.{Family}
-use Rattle.words.specs.declared.Family.TheVariants.{ByElement, Vector, Saturating, LongLong, Long, ByIndex}
+use Rattle.words.specs.declared.Family.TheVariants.{ByElement, Vector, Saturating, LongLong, Long}
 use Rattle.words.specs.declared.Fields.{Fields}
 use Rattle.bits.proofs.Bits.{rises-same, falls-same, toggled-differs}
 use Rattle.recipes.specs.Recipe.{per_source}
@@ -19,11 +19,11 @@ use Rattle.machine.proofs.Stepping.{stepped_to, stepped_z}
 use Rattle.machine.proofs.Small.{counts_small}
 use Rattle.demands.specs.Execution.{vl_of, LengthIsVl, Accepted, AcceptedSteps, AcceptedExactly, AlwaysInOrder}
 use Rattle.demands.specs.Execution.{Always, KeepsIfRefused, SameLengths, StillBytes, CountsEach, CountsToggled, AtMostWritten, FewWritten}
-use Rattle.demands.specs.Execution.{Whenever, ElementsA, ElementsB, ElementsC, ElementsZa, ElementsF, WrittenIs, ElsewhereZ, ZElsewhere, ElsewhereZa}
+use Rattle.demands.specs.Execution.{Whenever, ElementsA, ElementsB, ElementsC, ElementsZa, WrittenIs, ElsewhereZ, ZElsewhere, ElsewhereZa}
 use Rattle.demands.specs.Execution.{WheneverV, ClearsAbove, CountsCleared, SameAt128, WheneverZa, First, Distinct, Exact}
 use Rattle.demands.proofs.Outcomes.{accepted, in_order, IsRefused, refused_or_accepted, stepped_number}
 use Rattle.demands.proofs.Accepted.{step_accepts, step_lengths, step_bytes, step-each, step_few}
-use Rattle.demands.proofs.Accepted.{elements_a, elements_b, elements_c, elements-d, elements_e, elements_f, clears-above, counts_cleared, same-at_128, out_z, out-za}
+use Rattle.demands.proofs.Accepted.{elements_a, elements_b, elements_c, elements-d, elements_e, clears-above, counts_cleared, same-at_128, out_z, out-za}
 use Rattle.demands.proofs.Accepted.{first, distinct, exact}
 
 -- ---- VL
@@ -111,7 +111,6 @@ written_is =
       in_c = whenever Saturating (λ s f z za o. o.written ≡ vl_of s) (λ s w f z za a e. rw e);
       in_d = whenever LongLong (λ s f z za o. o.written ≡ vl_of s * f.group * 4) (λ s w f z za a e. rw e);
       in_e = whenever Long (λ s f z za o. o.written ≡ vl_of s * f.group * 2) (λ s w f z za a e. rw e);
-      in_f = whenever ByIndex (λ s f z za o. o.written ≡ vl_of s) (λ s w f z za a e. rw e);
     }
 
 pub by-element-step : Whenever ByElement ElementsA
@@ -128,9 +127,6 @@ long_long-step = whenever LongLong (ElementsZa 4) elements-d
 
 pub long-step : Whenever Long (ElementsZa 2)
 long-step = whenever Long (ElementsZa 2) elements_e
-
-pub by_index-step : Whenever ByIndex ElementsF
-by_index-step = whenever ByIndex ElementsF elements_f
 
 -- ---- the upper part of a V write
 
@@ -156,7 +152,6 @@ z_stays =
       in_a = whenever ByElement ElsewhereZ (λ s w f z za a q. out_z s w f z za a);
       in_b = whenever Vector ElsewhereZ (λ s w f z za a q. out_z s w f z za a);
       in_c = whenever Saturating ElsewhereZ (λ s w f z za a q. out_z s w f z za a);
-      in_f = whenever ByIndex ElsewhereZ (λ s w f z za a q. out_z s w f z za a);
     }
 
 pub za_stays : WheneverZa ElsewhereZa

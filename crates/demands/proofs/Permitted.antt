@@ -15,7 +15,7 @@ use Rattle.settings.proofs.Refusals.{not_0}
 use Rattle.words.specs.Says.{As, describe}
 use Rattle.words.specs.Decode.{enables_family, enables, decode_enabled, decode_paper}
 use Rattle.words.specs.declared.Family.{Family}
-use Rattle.words.specs.declared.Family.TheVariants.{ByElement, Vector, Saturating, LongLong, Long, ByIndex}
+use Rattle.words.specs.declared.Family.TheVariants.{ByElement, Vector, Saturating, LongLong, Long}
 use Rattle.words.specs.declared.Fields.{Fields}
 use Rattle.words.proofs.Answers.{decodes_exactly}
 use Rattle.words.proofs.Ranges.{in_range, in_family}
@@ -23,7 +23,7 @@ use Rattle.machine.specs.Modes.{permits}
 use Rattle.machine.specs.Execute.{Outcome, execute_paper}
 use Rattle.machine.specs.Loop.{Ready}
 use Rattle.machine.proofs.Executing.{not-decoded, not_permitted, is_permitted}
-use Rattle.demands.specs.Permitted.{Needs, in_a, in_b, in_c, in_d, in_d_with_z, in_e, in_f, number_due, WordsOfTable, needs_of, EveryWord, EnabledAndPermitted}
+use Rattle.demands.specs.Permitted.{Needs, in_a, in_b, in_c, in_d, in_d_with_z, in_e, number_due, WordsOfTable, needs_of, EveryWord, EnabledAndPermitted}
 use Rattle.demands.proofs.Outcomes.{stepped_number}
 
 -- ---- the number of a word, by its family and its lane
@@ -104,7 +104,6 @@ module _ (s : Settings) (z za : List ℕ) (r : Ready s z za) where
       (λ (l : f.lane ≡ 16). rw l (by-table in_d_with_z w f said LongLong 16 e l refl))
       (in_family f (in_range w f said) LongLong e).1
   in_family_is w f said Long e = by-table in_e w f said Long f.lane e refl refl
-  in_family_is w f said ByIndex e = by-table in_f w f said ByIndex f.lane e refl refl
 
   every : EveryWord s z za
   every w f said = in_family_is w f said f.family refl
@@ -123,7 +122,7 @@ module _ (s : Settings) (z za : List ℕ) (r : Ready s z za) where
             (every 0xC1E20008 _ refl, (every 0xC1E10008 _ refl, tt)),
             (
               (every 0xC1E20800 _ refl, (every 0xC1E10800 _ refl, tt)),
-              ((every 0x44BA8820 _ refl, (every 0x44F2B820 _ refl, tt)), tt),
+              tt,
             ),
           ),
         ),

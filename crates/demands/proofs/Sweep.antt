@@ -13,7 +13,7 @@ use Rattle.settings.specs.Valid.{vector_bytes}
 use Rattle.settings.specs.declared.Settings.{Settings}
 use Rattle.words.specs.Partner.{partner_word, turned, is_c, partner_paper}
 use Rattle.words.specs.declared.Family.{Family}
-use Rattle.words.specs.declared.Family.TheVariants.{ByElement, Vector, Saturating, LongLong, Long, ByIndex}
+use Rattle.words.specs.declared.Family.TheVariants.{ByElement, Vector, Saturating, LongLong, Long}
 use Rattle.words.specs.declared.Fields.{Fields}
 use Rattle.words.proofs.Answers.{not_c, partner_accepted, PartnerOf}
 use Rattle.elements.specs.Elements.{Bytes}
@@ -108,7 +108,6 @@ of_family s f z Vector e = none_above s f.destination z e
 of_family s f z Saturating e = tt
 of_family s f z LongLong e = tt
 of_family s f z Long e = tt
-of_family s f z ByIndex e = tt
 
 pub clear-at_128 : ClearAt128
 clear-at_128 s [] z za e = tt

@@ -26,7 +26,7 @@ use Rattle.machine.specs.Execute.{stepped, execute_paper}
 use Rattle.machine.specs.Run.{Report, Run}
 use Rattle.demands.specs.Execution.{ClearAbove}
 use Rattle.demands.specs.Sweep.{SourcesApart, ClearIfV, of_partner}
-use Rattle.demands.specs.SweepExamples.{Given, sweep_settings, start_z, start_za, Answer, sweep_answer, own_first, own_second, saturates, unknown, wrong_mode, wide, not_clear, into_za, together, own_in_f}
+use Rattle.demands.specs.SweepExamples.{Given, sweep_settings, start_z, start_za, Answer, sweep_answer, own_first, own_second, saturates, unknown, wrong_mode, wide, not_clear, into_za}
 use Rattle.demands.specs.SweepExamples.{answers_hold}
 use Rattle.demands.specs.SweepExamples.{closing, ClosesFrom, AllBytes, AllAccepted, NoneSaturating, NoneItsOwnSource, AllClear, Met, AllMet, StaysOpen, EachNeeded}
 use Rattle.demands.proofs.Sweep.{sweep-closes, clear-at_128}
@@ -83,7 +83,7 @@ Wraps f = f.family ≢ Saturating
 abbrev Sources : Fields → Type 0
 Sources f = SourcesApart f.family f
 
--- a word of A, B or F, by its registers
+-- a word of A or B, by its registers
 apart : (d n m : ℕ) → eqb d n ≡ false → eqb d m ≡ false → (d ≢ n) × (d ≢ m)
 apart d n m p q = (eqb-false d n p, eqb-false d m q)
 
@@ -133,10 +133,6 @@ all_met = (
       (by-fields (decoded into_za 0xC1A20008) Wraps ((not_c _).1 refl), tt)
       (by-fields (decoded into_za 0xC1A20008) Sources tt, tt)
       (by-fields (decoded into_za 0xC1A20008) (Clear into_za (start_z into_za)) tt, tt),
-  met together (refl, (refl, (refl, tt)))
-      (by-fields (decoded together 0x44A28020) Wraps ((not_c _).1 refl), (by-fields (decoded together 0x0E208023) Wraps ((not_c _).1 refl), (by-fields (decoded together 0x44E3BC04) Wraps ((not_c _).1 refl), tt)))
-      (by-fields (decoded together 0x44A28020) Sources (apart 0 1 2 refl refl), (by-fields (decoded together 0x0E208023) Sources (apart 3 1 0 refl refl), (by-fields (decoded together 0x44E3BC04) Sources (apart 4 0 3 refl refl), tt)))
-      (clear_128 together refl),
 )
 
 pub each_needed : EachNeeded
@@ -150,9 +146,6 @@ each_needed =
       not_its_second =
           stays_open own_second _ ((refl, tt), (by-fields (decoded own_second 0x0E228022) Wraps ((not_c _).1 refl), tt), clear_128 own_second refl)
           (moved 2 2 0 own_second _ (ap (nth 2) answers_hold) (λ (e : ◌≡◌ {A = ℕ} 0x0100 0x0101). omega arith));
-      not_its_own_in_f =
-          stays_open own_in_f _ ((refl, tt), (by-fields (decoded own_in_f 0x44A28021) Wraps ((not_c _).1 refl), tt), clear_128 own_in_f refl)
-          (moved 4 1 0 own_in_f _ (ap (nth 8) answers_hold) (λ (e : ◌≡◌ {A = ℕ} 0x00FEFE00 0x01010101). omega arith));
       not_saturating =
           stays_open saturates _ ((refl, tt), (by-fields (decoded saturates 0x44BA3820) Sources tt, tt), clear_128 saturates refl)
           (refused 4 0 0 saturates _ (ap (nth 3) answers_hold) (λ (e : ◌≡◌ {A = ℕ} 6 0). omega arith));

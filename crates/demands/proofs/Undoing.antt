@@ -1,12 +1,12 @@
 -- A step is undone by the step of the same fields with `subtract` flipped. Assumes nothing.
-use Prim.Native.Nat.{ℕ, ◌+◌, ◌-◌, ◌*◌, ◌/◌, ◌%◌, ◌≤◌, ◌<◌}
+use Prim.Native.Nat.{ℕ, ◌+◌, ◌-◌, ◌*◌, ◌/◌, ◌%◌, ◌<◌}
 use native.Mathlib.Omega.{arith}
 use mathlib.Core.Path.{◌≡◌, sym, ap, ap₂, ◌∙◌, subst}
 use mathlib.Core.Logic.{◌≢◌, inl, inr, ⊎_elim}
 use mathlib.Core.Bool.{true, false}
 use mathlib.Core.List.{List, ◌++◌}
 use lib.Dec.{eqb}
-use lib.ListN.{length, get_or, drop, length-drop, take-append-drop}
+use lib.ListN.{length, drop, length-drop, take-append-drop}
 use lib.Seq.{get_or-drop, ext_get_or}
 use borrow.Author.Tests.{eqb-true}
 use Rattle.laws.proofs.Tests.{never_both}
@@ -29,39 +29,34 @@ use Rattle.recipes.proofs.Inside.{new-length, widths, length-new_bytes}
 use Rattle.recipes.proofs.Undone.{saturates_c, recipe-turned, undo-vector, undo-whole}
 use Rattle.machine.specs.Step.{register, new_register, z_after, stride, selected, first_vector, writes_vector, new_vector, za_after}
 use Rattle.machine.specs.Execute.{Outcome, written, stepped}
-use Rattle.machine.specs.Loop.{IntoZa}
-use Rattle.machine.proofs.Renewal.{v-length, whole-register}
+use Rattle.machine.specs.Loop.{IntoV, IntoZa}
+use Rattle.machine.proofs.Renewal.{v-length}
 use Rattle.machine.proofs.Stepping.{IntoZ, which_file, stepped_to, stepped_z, stepped_za, stepped_z_lem, stepped-za}
 use Rattle.machine.proofs.Registers.{long-register}
-use Rattle.demands.specs.Execution.{Accepted}
+use Rattle.demands.specs.Execution.{ClearAbove, Accepted}
 use Rattle.demands.specs.Sweep.{SourcesApart, ClearIfV}
 use Rattle.demands.proofs.Outcomes.{accepted_ranges}
 use Rattle.demands.proofs.Effects.{byte_of, z-new, z-same, each-za}
 
--- ---- A, B and F: into Z
+-- ---- A and B: into Z
 
--- a word that writes Z and wraps has single source registers, neither is the destination, and what the elements do not fill is clear
+-- a word that writes a V register has single source registers, neither is the destination, and above the V register there are zeros
 record Single (s : Settings) (f : Fields) (z : List ℕ) : Type 0 where
+  into_v : IntoV f
   one : f.group ≡ 1
   not_first : f.destination ≢ f.first
   not_second : f.destination ≢ f.second
-  clear : (i : ℕ) → new_length f.family (vector_bytes s) ≤ i → i < vector_bytes s → get_or z (f.destination * vector_bytes s + i) 0 ≡ 0
+  clear : ClearAbove s f.destination z
 
--- above a V register there are zeros, and F fills its register
 single : (s : Settings) (f : Fields) (z : List ℕ) → IntoZ f → Ranges f → is_c f.family ≡ false → SourcesApart f.family f → ClearIfV f.family s f z
     → Single s f z
-single s f z (inl (inl e)) g c p h =
+single s f z (inl e) g c p h =
     let q = subst (λ (x : Family). SourcesApart x f) e p in
-    let clear = subst (λ (x : Family). ClearIfV x s f z) e h in
-    record { one = in_family f g _ e; not_first = q.0; not_second = q.1; clear = λ i l. clear i (omega (arith, v-length f (vector_bytes s) (inl e))) }
-single s f z (inl (inr e)) g c p h =
+    record { into_v = inl e; one = in_family f g _ e; not_first = q.0; not_second = q.1; clear = subst (λ (x : Family). ClearIfV x s f z) e h }
+single s f z (inr (inl e)) g c p h =
     let q = subst (λ (x : Family). SourcesApart x f) e p in
-    let clear = subst (λ (x : Family). ClearIfV x s f z) e h in
-    record { one = in_family f g _ e; not_first = q.0; not_second = q.1; clear = λ i l. clear i (omega (arith, v-length f (vector_bytes s) (inr e))) }
-single s f z (inr (inl e)) g c p h = absurd (never_both (is_c f.family) (ap is_c e) c)
-single s f z (inr (inr e)) g c p h =
-    let q = subst (λ (x : Family). SourcesApart x f) e p in
-    record { one = (in_family f g _ e).0; not_first = q.0; not_second = q.1; clear = λ i l u. absurd (omega (arith, whole-register f (vector_bytes s) (inr e))) }
+    record { into_v = inr e; one = in_family f g _ e; not_first = q.0; not_second = q.1; clear = subst (λ (x : Family). ClearIfV x s f z) e h }
+single s f z (inr (inr e)) g c p h = absurd (never_both (is_c f.family) (ap is_c e) c)
 
 module _ (s : Settings) (v : VectorLength (vector_bytes s)) (f : Fields) (g : Ranges f) (z : List ℕ) (long : length z ≡ 32 * vector_bytes s) (b : Bytes z)
     (wraps : (recipe_of f.family f 0).saturating ≡ false) where
@@ -78,13 +73,13 @@ module _ (s : Settings) (v : VectorLength (vector_bytes s)) (f : Fields) (g : Ra
   old_long = length-vector_at w d z (room d 32 w z long g.destination)
 
   -- what the elements do not fill was clear
-  clear-part : Single s f z
+  clear-part : new_length f.family (vector_bytes s) ≡ 16 → ClearAbove s f.destination z
       → drop (new_length f.family (vector_bytes s)) (register s z f.destination) ≡ zeros (vector_bytes s - new_length f.family (vector_bytes s))
-  clear-part q =
+  clear-part sixteen clear =
       ext_get_or 0 (drop n (register s z d)) (zeros (w - n)) (rw (length-drop, old_long, length-zeros))
       (λ i h.
       let l : n + i < w = omega (arith, length-drop n (register s z d), old_long) in
-      get_or-drop n (register s z d) i 0 ∙ byte_of w d z (n + i) l ∙ q.clear (n + i) (omega arith) l ∙ sym (get_d-zeros (w - n) i))
+      get_or-drop n (register s z d) i 0 ∙ byte_of w d z (n + i) l ∙ clear (n + i) (omega arith) l ∙ sym (get_d-zeros (w - n) i))
 
   -- the partner finds the same sources, and leaves the destination that there was
   register-back : f.first < 32 → f.second < 32 → Single s f z → new_register s (turned f) (z_after s f z) ≡ register s z f.destination
@@ -96,7 +91,7 @@ module _ (s : Settings) (v : VectorLength (vector_bytes s)) (f : Fields) (g : Ra
       (recipe-turned f.family f 0) (widths f g 0).1.0 wraps (new-length f.family w v).0
       (Bytes-vector_at w d z b) (omega (arith, old_long, (new-length f.family w v).1))
       (z-new s v f g z long) (z-same s v f g z long f.first hf q.not_first) (z-same s v f g z long f.second hs q.not_second))
-      (sym (clear-part q))
+      (sym (clear-part (v-length f w q.into_v) q.clear))
       ∙ take-append-drop n (register s z d)
 
   z-back : f.first < 32 → f.second < 32 → Single s f z → z_after s (turned f) (z_after s f z) ≡ z

@@ -4,7 +4,7 @@ use Rattle.settings.specs.Valid.{valid_settings, vector_bytes, array_bytes}
 use Rattle.settings.specs.declared.Settings.{Settings}
 use Rattle.words.specs.Decode.{decode_paper}
 use Rattle.words.specs.declared.Family.{Family}
-use Rattle.words.specs.declared.Family.TheVariants.{ByElement, Vector, Saturating, LongLong, Long, ByIndex}
+use Rattle.words.specs.declared.Family.TheVariants.{ByElement, Vector, Saturating, LongLong, Long}
 use Rattle.words.specs.declared.Fields.{Fields}
 use Rattle.elements.specs.Elements.{Bytes, element_of}
 use Rattle.elements.specs.Files.{vector_at}
@@ -124,24 +124,15 @@ ElementsA s f = ElementsOfHalf (λ e. f.index) s f
 abbrev pub ElementsB : Settings → Fields → List ℕ → List ℕ → Outcome → Type 0
 ElementsB s f = ElementsOfHalf (λ e. f.part * (64 / f.lane) + e) s f
 
--- C: "for double-width element e, the first factor is element 2e+T. With s = e − (e mod (64/lane)), the second is element 2s+index". `rule` is what
--- comes of the old element and the two factors
-abbrev pub ElementsBySegment : (ℕ → ℕ → ℕ → ℕ) → Settings → Fields → List ℕ → List ℕ → Outcome → Type 0
-ElementsBySegment rule s f z za o =
+-- C: "for double-width element e, the first factor is element 2e+T. With s = e − (e mod (64/lane)), the second is element 2s+index"
+abbrev pub ElementsC : Settings → Fields → List ℕ → List ℕ → Outcome → Type 0
+ElementsC s f z za o =
     (e : ℕ) → e < vl_of s / (2 * f.lane)
     → element_of (2 * f.lane) (register s o.z f.destination) e
-    ≡ rule
+    ≡ sat_step f.lane (2 * f.lane) f.subtract
     (element_of (2 * f.lane) (register s z f.destination) e)
     (element_of f.lane (register s z f.first) (2 * e + f.part))
     (element_of f.lane (register s z f.second) (2 * (e - e % (64 / f.lane)) + f.index))
-
--- "The doubled product is clamped to the signed double width; the sum or difference is clamped again"
-abbrev pub ElementsC : Settings → Fields → List ℕ → List ℕ → Outcome → Type 0
-ElementsC s f = ElementsBySegment (sat_step f.lane (2 * f.lane) f.subtract) s f
-
--- F: "They read elements as family C does, multiply signed or unsigned, do not double, and wrap" (document 02)
-abbrev pub ElementsF : Settings → Fields → List ℕ → List ℕ → Outcome → Type 0
-ElementsF s f = ElementsBySegment (lane_step f.lane (2 * f.lane) f.unsigned f.subtract) s f
 
 -- D and E: "For r below group and i below k, vector first + r·stride + i of ZA takes, at each element e of k·lane bits, the product of elements
 -- k·e+i of Z registers n+r and m+r, modulo 2 to the width"
@@ -154,14 +145,13 @@ ElementsZa k s f z za o =
     (element_of f.lane (register s z (f.first + r)) (k * e + i))
     (element_of f.lane (register s z (f.second + r)) (k * e + i))
 
--- A, B: "Their written count becomes VL" (document 02). "VL in C, VL·group·4 in D, VL·group·2 in E". F: "written is VL" (document 02)
+-- A, B: "Their written count becomes VL" (document 02). "VL in C, VL·group·4 in D, VL·group·2 in E"
 pub record WrittenIs : Type 0 where
   pub in_a : Whenever ByElement (λ s f z za o. o.written ≡ vl_of s)
   pub in_b : Whenever Vector (λ s f z za o. o.written ≡ vl_of s)
   pub in_c : Whenever Saturating (λ s f z za o. o.written ≡ vl_of s)
   pub in_d : Whenever LongLong (λ s f z za o. o.written ≡ vl_of s * f.group * 4)
   pub in_e : Whenever Long (λ s f z za o. o.written ≡ vl_of s * f.group * 2)
-  pub in_f : Whenever ByIndex (λ s f z za o. o.written ≡ vl_of s)
 
 -- ---- the upper part of a V write
 
@@ -200,7 +190,7 @@ SameAt128 s f z za o =
 
 -- ---- everything else stays
 
--- A, B, C and F leave ZA, and each byte of Z but those of the destination
+-- A, B and C leave ZA, and each byte of Z but those of the destination
 abbrev pub ElsewhereZ : Settings → Fields → List ℕ → List ℕ → Outcome → Type 0
 ElsewhereZ s f z za o =
     (o.za ≡ za)
@@ -210,7 +200,6 @@ pub record ZElsewhere : Type 0 where
   pub in_a : Whenever ByElement ElsewhereZ
   pub in_b : Whenever Vector ElsewhereZ
   pub in_c : Whenever Saturating ElsewhereZ
-  pub in_f : Whenever ByIndex ElsewhereZ
 
 -- v is first + r·stride + i, with r below group and i below k
 pub record Among (k : ℕ) (s : Settings) (f : Fields) (v : ℕ) : Type 0 where

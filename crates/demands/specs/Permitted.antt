@@ -1,13 +1,13 @@
 -- Which features and modes permit which family, in numbers. "A, B need AdvSIMD. C needs SVE2 or SME. D, E need SME2; D with z=1 also I16I64. Modes, tested
--- at execution only: A, B need SM off. C needs SM on, or SVE2. D, E need SM and ZA on." Of F: "Features and modes are family C's" (document 02). The lists
--- are written down from these sentences, and from no definition. proofs/Permitted.antt proves the statement.
+-- at execution only: A, B need SM off. C needs SM on, or SVE2. D, E need SM and ZA on." The lists are written down from that sentence, and from no
+-- definition. proofs/Permitted.antt proves the statement.
 use Rattle.std.specs.Prelude.{ℕ, ◌*◌, ◌≡◌, Bool, true, false, ◌||◌, cond, List, [], ◌∷◌, eqb, length}
 use Rattle.laws.specs.Lists.{Each}
 use Rattle.settings.specs.Valid.{valid_settings, vector_bytes, array_bytes}
 use Rattle.settings.specs.declared.Settings.{Settings}
 use Rattle.words.specs.Says.{As, describe}
 use Rattle.words.specs.declared.Family.{Family}
-use Rattle.words.specs.declared.Family.TheVariants.{ByElement, Vector, Saturating, LongLong, Long, ByIndex}
+use Rattle.words.specs.declared.Family.TheVariants.{ByElement, Vector, Saturating, LongLong, Long}
 use Rattle.words.specs.declared.Fields.{Fields}
 use Rattle.machine.specs.Execute.{execute_paper}
 
@@ -49,10 +49,6 @@ in_d_with_z = record { words = 0xC1E20008 ∷ 0xC1E10008 ∷ []; enabled = 28 �
 abbrev pub in_e : Needs
 in_e = record { words = 0xC1E20800 ∷ 0xC1E10800 ∷ []; enabled = 12 ∷ 13 ∷ 14 ∷ 15 ∷ 28 ∷ 29 ∷ 30 ∷ 31 ∷ []; modes = 3 ∷ []; any_mode = [] }
 
--- F: C's sums, for words of its own
-abbrev pub in_f : Needs
-in_f = record { words = 0x44BA8820 ∷ 0x44F2B820 ∷ []; enabled = in_c.enabled; modes = in_c.modes; any_mode = in_c.any_mode }
-
 abbrev pub is_among : ℕ → List ℕ → Bool
 is_among n [] = false
 is_among n (x ∷ xs) = eqb n x || is_among n xs
@@ -70,7 +66,7 @@ UnderSettings P =
 abbrev pub WordsOfTable : Settings → List ℕ → List ℕ → Type 0
 WordsOfTable s z za =
     Each (λ (l : Needs). Each (λ (w : ℕ). (execute_paper s w z za).number ≡ number_due l s.features.0 s.modes.0) l.words)
-    (in_a ∷ in_b ∷ in_c ∷ in_d ∷ in_d_with_z ∷ in_e ∷ in_f ∷ [])
+    (in_a ∷ in_b ∷ in_c ∷ in_d ∷ in_d_with_z ∷ in_e ∷ [])
 
 -- what a word of a family needs; D with z=0 has lane 8
 abbrev pub needs_of : Family → ℕ → Needs
@@ -79,7 +75,6 @@ needs_of Vector lane = in_b
 needs_of Saturating lane = in_c
 needs_of LongLong lane = cond (eqb lane 8) in_d in_d_with_z
 needs_of Long lane = in_e
-needs_of ByIndex lane = in_f
 
 -- and so does every word that has fields
 abbrev pub EveryWord : Settings → List ℕ → List ℕ → Type 0

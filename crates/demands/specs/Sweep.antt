@@ -7,7 +7,7 @@ use Rattle.settings.specs.declared.Settings.{Settings}
 use Rattle.words.specs.Decode.{decode_paper}
 use Rattle.words.specs.Partner.{partner_paper}
 use Rattle.words.specs.declared.Family.{Family}
-use Rattle.words.specs.declared.Family.TheVariants.{ByElement, Vector, Saturating, LongLong, Long, ByIndex}
+use Rattle.words.specs.declared.Family.TheVariants.{ByElement, Vector, Saturating, LongLong, Long}
 use Rattle.words.specs.declared.Fields.{Fields}
 use Rattle.elements.specs.Elements.{Bytes}
 use Rattle.machine.specs.Execute.{refused_with, execute_paper}
@@ -39,27 +39,25 @@ AcceptedInTurn each (w ∷ ws) z za = ((each w z za).number ≡ 0) × AcceptedIn
 abbrev pub NotSaturating : Settings → ℕ → Type 0
 NotSaturating s w = (f : Fields) → decode_paper s w ≡ (0, f) → f.family ≢ Saturating
 
--- A, B and F write a register that they add to, and it is neither source
+-- A and B write a V register, and it is neither source
 abbrev pub SourcesApart : Family → Fields → Type 0
 SourcesApart ByElement f = (f.destination ≢ f.first) × (f.destination ≢ f.second)
 SourcesApart Vector f = (f.destination ≢ f.first) × (f.destination ≢ f.second)
 SourcesApart Saturating f = Unit {0}
 SourcesApart LongLong f = Unit {0}
 SourcesApart Long f = Unit {0}
-SourcesApart ByIndex f = (f.destination ≢ f.first) × (f.destination ≢ f.second)
 
--- "no word that writes a V register naming its destination as a source"; F is covered "where the destination is neither source" (document 02)
+-- "no word that writes a V register naming its destination as a source"
 abbrev pub NotItsOwnSource : Settings → ℕ → Type 0
 NotItsOwnSource s w = (f : Fields) → decode_paper s w ≡ (0, f) → SourcesApart f.family f
 
--- what a family asks of the register that it writes: A and B clear it from byte 16 on, and no step brings back what was there; F clears nothing
+-- what a family asks of the register that it writes: A and B clear it from byte 16 on, and no step brings back what was there
 abbrev pub ClearIfV : Family → Settings → Fields → List ℕ → Type 0
 ClearIfV ByElement s f z = ClearAbove s f.destination z
 ClearIfV Vector s f z = ClearAbove s f.destination z
 ClearIfV Saturating s f z = Unit {0}
 ClearIfV LongLong s f z = Unit {0}
 ClearIfV Long s f z = Unit {0}
-ClearIfV ByIndex s f z = Unit {0}
 
 abbrev pub DestinationClear : Settings → ℕ → List ℕ → Type 0
 DestinationClear s w z = (f : Fields) → decode_paper s w ≡ (0, f) → ClearIfV f.family s f z

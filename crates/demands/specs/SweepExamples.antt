@@ -79,10 +79,6 @@ not_clear = record { vl = 256; features = 1; modes = 0; words = 0x0E228020 ∷ [
 abbrev pub into_za : Given
 into_za = record { vl = 256; features = 12; modes = 3; words = 0xC1A20008 ∷ []; each = 0x0101; above = 0x0101 }
 
--- F with B between: a word of lane 16, signed, one of B that reads what it wrote, and a word of lane 32, unsigned, that reads what both wrote
-abbrev pub together : Given
-together = record { vl = 128; features = 3; modes = 0; words = 0x44A28020 ∷ 0x0E208023 ∷ 0x44E3BC04 ∷ []; each = 0x0101; above = 0 }
-
 -- the destination, 1, is the first source: the partner finds a source that the word has changed
 abbrev pub own_first : Given
 own_first = record { vl = 128; features = 1; modes = 0; words = 0x0E228021 ∷ []; each = 0x0101; above = 0 }
@@ -90,10 +86,6 @@ own_first = record { vl = 128; features = 1; modes = 0; words = 0x0E228021 ∷ [
 -- the destination, 2, is the second source
 abbrev pub own_second : Given
 own_second = record { vl = 128; features = 1; modes = 0; words = 0x0E228022 ∷ []; each = 0x0101; above = 0 }
-
--- F: the destination, 1, is the first source
-abbrev pub own_in_f : Given
-own_in_f = record { vl = 128; features = 2; modes = 0; words = 0x44A28021 ∷ []; each = 0x0101; above = 0 }
 
 -- C: −32768 squared and doubled is clamped, and so is the difference
 abbrev pub saturates : Given
@@ -136,9 +128,6 @@ sweeps =
     ∷ line 2 0 0 wrong_mode 0x0101 0x0101 0x0101 ((4, 0, 0, 0) ∷ []) ((4, 0, 0, 0) ∷ [])
     -- the first 16 bits above the V register: eight times two ones fall there, beside what the elements change, and do not rise again
     ∷ line 2 0 8 not_clear 0x0101 0 0 ((0, 8, 24, 256) ∷ []) ((0, 8, 8, 256) ∷ [])
-    ∷ line 8 4 0 together 0x0101010101010101 0x00FFFCF8F3F3F5FB 0x0101010101010101
-    ((0, 12, 8, 128) ∷ (0, 8, 4, 128) ∷ (0, 78, 6, 128) ∷ []) ((0, 6, 78, 128) ∷ (0, 4, 8, 128) ∷ (0, 8, 12, 128) ∷ [])
-    ∷ line 4 1 0 own_in_f 0x01010101 0x01020302 0x00FEFE00 ((0, 12, 8, 128) ∷ []) ((0, 48, 12, 128) ∷ [])
     ∷ []
 
 -- the definitions answer each line as the table does
@@ -185,9 +174,9 @@ AllClear g = ClearInTurn (sweep_settings g) g.words (start_z g) (start_za g)
 abbrev pub Met : Given → Type 0
 Met g = AllBytes g × AllAccepted g × NoneSaturating g × NoneItsOwnSource g × AllClear g × ClosesFrom g
 
--- these meet every premise, so the premises can be met together, also at VL 256 and of B and F at once; and a word of D meets them where Z is not clear
+-- these meet every premise, so the premises can be met together, also at VL 256; and a word of D meets them where Z is not clear
 abbrev pub AllMet : Type 0
-AllMet = Met closing × Met wide × Met into_za × Met together
+AllMet = Met closing × Met wide × Met into_za
 
 -- a sweep that does not close, and what it meets
 pub record StaysOpen (g : Given) (Meets : Type 0) : Type 0 where
@@ -199,7 +188,6 @@ pub record StaysOpen (g : Given) (Meets : Type 0) : Type 0 where
 pub record EachNeeded : Type 0 where
   pub not_its_first : StaysOpen own_first (AllAccepted own_first × NoneSaturating own_first × AllClear own_first)
   pub not_its_second : StaysOpen own_second (AllAccepted own_second × NoneSaturating own_second × AllClear own_second)
-  pub not_its_own_in_f : StaysOpen own_in_f (AllAccepted own_in_f × NoneSaturating own_in_f × AllClear own_in_f)
   pub not_saturating : StaysOpen saturates (AllAccepted saturates × NoneItsOwnSource saturates × AllClear saturates)
   pub not_refused_3 : StaysOpen unknown (NoneSaturating unknown × NoneItsOwnSource unknown × AllClear unknown)
   pub not_refused_4 : StaysOpen wrong_mode (NoneSaturating wrong_mode × NoneItsOwnSource wrong_mode × AllClear wrong_mode)

@@ -13,14 +13,14 @@ use Rattle.laws.proofs.Bits.{one_bit}
 use Rattle.laws.proofs.Tests.{cond-holds, either, never_both}
 use Rattle.layouts.specs.Layout.{Layout, size, matches, value, build}
 use Rattle.layouts.proofs.Inverse.{Agrees, build_agrees}
-use Rattle.words.specs.Rows.{row_a, row_b, row_c16, row_c32, row_f16, row_f32, row_d2, row_d4, row_e2, row_e4}
+use Rattle.words.specs.Rows.{row_a, row_b, row_c16, row_c32, row_d2, row_d4, row_e2, row_e4}
 use Rattle.words.specs.Numbers.{bit_of}
 use Rattle.words.proofs.Numbers.{number_bit}
 use Rattle.words.proofs.Ranges.{by_size}
-use Rattle.words.specs.Says.{As, is_one, Row, entry_a, entry_b, table, describe, fields_a16, fields_a32, fields_b, fields_c, fields_f, fields_d, fields_e}
+use Rattle.words.specs.Says.{As, is_one, Row, entry_a, entry_b, table, describe, fields_a16, fields_a32, fields_b, fields_c, fields_d, fields_e}
 use Rattle.words.specs.declared.Fields.{Fields}
 use Rattle.words.proofs.Table.{◌then◌, WhereSaid, said_each}
-use Rattle.encoding.specs.Candidate.{candidate_of, values_a16, values_a32, values_b, values_c16, values_c32, values_f16, values_f32, values_d, values_e}
+use Rattle.encoding.specs.Candidate.{candidate_of, values_a16, values_a32, values_b, values_c16, values_c32, values_d, values_e}
 
 -- a word of the row that is not reserved is the candidate of its fields
 abbrev Undone : ℕ → Row → Type 0
@@ -74,15 +74,9 @@ module _ (w : ℕ) (lt : w < 2 ^ 32) where
       let lane = lane_b_lem (value row_b w "s") (omega arith) n in
       one-row row_b (values_b (fields_b (value row_b w))) refl m (omega arith)
 
-  -- S stands at the same place in both rows of C; U and S in both rows of F, and in the four of D and E; z in the two of D
+  -- S stands at the same place in both rows of C; U and S in the four rows of D and E, and z in the two of D
   subtract_c : bit_of (is_one (value row_c16 w "S")) ≡ value row_c16 w "S"
   subtract_c = number_bit _ (omega arith)
-
-  unsigned_f : bit_of (is_one (value row_f16 w "U")) ≡ value row_f16 w "U"
-  unsigned_f = number_bit _ (omega arith)
-
-  subtract_f : bit_of (is_one (value row_f16 w "S")) ≡ value row_f16 w "S"
-  subtract_f = number_bit _ (omega arith)
 
   unsigned-za : bit_of (is_one (value row_d2 w "U")) ≡ value row_d2 w "U"
   unsigned-za = number_bit _ (omega arith)
@@ -99,8 +93,6 @@ module _ (w : ℕ) (lt : w < 2 ^ 32) where
       then b_undone
       then (λ m _. one-row row_c16 (values_c16 (fields_c 16 (value row_c16 w))) refl m (omega (arith, subtract_c)))
       then (λ m _. one-row row_c32 (values_c32 (fields_c 32 (value row_c32 w))) refl m (omega (arith, subtract_c)))
-      then (λ m _. one-row row_f16 (values_f16 (fields_f 16 (value row_f16 w))) refl m (omega arith, (omega arith, (subtract_f, (unsigned_f, omega arith)))))
-      then (λ m _. one-row row_f32 (values_f32 (fields_f 32 (value row_f32 w))) refl m (omega arith, (omega arith, (subtract_f, (unsigned_f, omega arith)))))
       then (λ m _. one-row row_d2 (values_d (fields_d 2 (value row_d2 w)) 2 16) refl m (omega (arith, unsigned-za, subtract-za, lane-za)))
       then (λ m _. one-row row_d4 (values_d (fields_d 4 (value row_d4 w)) 4 8) refl m (omega (arith, unsigned-za, subtract-za, lane-za)))
       then (λ m _. one-row row_e2 (values_e (fields_e 2 (value row_e2 w)) 2 16) refl m (omega (arith, unsigned-za, subtract-za)))

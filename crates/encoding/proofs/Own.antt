@@ -14,16 +14,16 @@ use Rattle.laws.specs.Lists.{Each}
 use Rattle.laws.proofs.Tests.{one_of_three, by_three, failed, never_both, cond-holds}
 use Rattle.layouts.specs.Layout.{Layout, size, matches, value, parts, build}
 use Rattle.layouts.proofs.Inverse.{Fit, parts-build}
-use Rattle.words.specs.Rows.{row_a, row_b, row_c16, row_c32, row_f16, row_f32, row_d2, row_d4, row_e2, row_e4}
-use Rattle.words.specs.Says.{Row, table, describe, fields_a16, fields_a32, by_vector, fields_c, fields_f, fields_d, fields_e}
+use Rattle.words.specs.Rows.{row_a, row_b, row_c16, row_c32, row_d2, row_d4, row_e2, row_e4}
+use Rattle.words.specs.Says.{Row, table, describe, fields_a16, fields_a32, by_vector, fields_c, fields_d, fields_e}
 use Rattle.words.specs.Numbers.{bit_of}
 use Rattle.words.specs.declared.Family.{Family}
-use Rattle.words.specs.declared.Family.TheVariants.{ByElement, Vector, Saturating, LongLong, Long, ByIndex}
+use Rattle.words.specs.declared.Family.TheVariants.{ByElement, Vector, Saturating, LongLong, Long}
 use Rattle.words.specs.declared.Fields.{Fields}
 use Rattle.words.proofs.Numbers.{bit_range}
 use Rattle.words.proofs.Table.{described_exactly}
 use Rattle.words.proofs.Ranges.{in_range}
-use Rattle.encoding.specs.Candidate.{values_a16, values_a32, values_b, values_c16, values_c32, values_f16, values_f32, values_d, values_e, candidate_by, candidate_of, same_of, says_only}
+use Rattle.encoding.specs.Candidate.{values_a16, values_a32, values_b, values_c16, values_c32, values_d, values_e, candidate_by, candidate_of, same_of, says_only}
 use Rattle.encoding.proofs.Equal.{says_eq}
 
 -- ---- any row
@@ -64,7 +64,6 @@ own_by Vector f w = cond (lane_b f.lane) (same_of f (by_vector (value row_b w) f
 own_by Saturating f w = cond (eqb f.lane 16) (same_of f (fields_c 16 (value row_c16 w))) (same_of f (fields_c 32 (value row_c32 w)))
 own_by LongLong f w = cond (eqb f.group 2) (same_of f (fields_d 2 (value row_d2 w))) (same_of f (fields_d 4 (value row_d4 w)))
 own_by Long f w = cond (eqb f.group 2) (same_of f (fields_e 2 (value row_e2 w))) (same_of f (fields_e 4 (value row_e4 w)))
-own_by ByIndex f w = cond (eqb f.lane 16) (same_of f (fields_f 16 (value row_f16 w))) (same_of f (fields_f 32 (value row_f32 w)))
 
 -- U and S are bits, so that each value is within its field
 module _ (f : Fields) where
@@ -119,14 +118,11 @@ own-by Saturating f w =
     let (_, (_, (c16, (c32, _)))) = answers f w in
     one_of (eqb f.lane 16) w _ _ _ _ _ (c16 (values_c16 f) (omega (arith, s f)) refl) (c32 (values_c32 f) (omega (arith, s f)) refl)
 own-by LongLong f w =
-    let (_, (_, (_, (_, (_, (_, (d2, (d4, _)))))))) = answers f w in
+    let (_, (_, (_, (_, (d2, (d4, _)))))) = answers f w in
     one_of (eqb f.group 2) w _ _ _ _ _ (d2 (values_d f 2 16) (omega (arith, u f, s f)) refl) (d4 (values_d f 4 8) (omega (arith, u f, s f)) refl)
 own-by Long f w =
-    let (_, (_, (_, (_, (_, (_, (_, (_, (e2, (e4, _)))))))))) = answers f w in
+    let (_, (_, (_, (_, (_, (_, (e2, (e4, _)))))))) = answers f w in
     one_of (eqb f.group 2) w _ _ _ _ _ (e2 (values_e f 2 16) (omega (arith, u f, s f)) refl) (e4 (values_e f 4 8) (omega (arith, u f, s f)) refl)
-own-by ByIndex f w =
-    let (_, (_, (_, (_, (f16, (f32, _)))))) = answers f w in
-    one_of (eqb f.lane 16) w _ _ _ _ _ (f16 (values_f16 f) (omega (arith, u f, s f)) refl) (f32 (values_f32 f) (omega (arith, u f, s f)) refl)
 
 -- the answer of the candidate's own row is the answer of the whole table
 pub own : (family : Family) (f : Fields) (w : ℕ) (r : Bool) → f.family ≡ family → w ≡ candidate_of f → r ≡ own_by family f w → r ≡ says_only f (describe w)

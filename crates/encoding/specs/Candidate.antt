@@ -3,10 +3,10 @@
 use Rattle.std.specs.Prelude.{ℕ, ◌/◌, ◌%◌, List, [], ◌∷◌, Bool, false, ◌&&◌, cond, eqb}
 use Rattle.std.specs.Bool.{beq}
 use Rattle.layouts.specs.Layout.{Layout, row, build}
-use Rattle.words.specs.Rows.{row_a, row_b, row_c16, row_c32, row_f16, row_f32, row_d2, row_d4, row_e2, row_e4}
+use Rattle.words.specs.Rows.{row_a, row_b, row_c16, row_c32, row_d2, row_d4, row_e2, row_e4}
 use Rattle.words.specs.Numbers.{family_number, bit_of}
 use Rattle.words.specs.declared.Family.{Family}
-use Rattle.words.specs.declared.Family.TheVariants.{ByElement, Vector, Saturating, LongLong, Long, ByIndex}
+use Rattle.words.specs.declared.Family.TheVariants.{ByElement, Vector, Saturating, LongLong, Long}
 use Rattle.words.specs.declared.Fields.{Fields}
 use Rattle.words.specs.Says.{Described, As, Nothing}
 
@@ -40,19 +40,6 @@ values_c16 f = f.index / 2 % 4 ∷ f.second % 8 ∷ values_c f
 abbrev pub values_c32 : Fields → List ℕ
 values_c32 f = f.index / 2 % 2 ∷ f.second % 16 ∷ values_c f
 
--- the low bits of both rows of F
-abbrev pub low_f : Layout
-low_f = row "10 S U i T nnnnn ddddd"
-
-abbrev pub values_f : Fields → List ℕ
-values_f f = bit_of f.subtract ∷ bit_of f.unsigned ∷ f.index % 2 ∷ f.part % 2 ∷ f.first % 32 ∷ f.destination % 32 ∷ []
-
-abbrev pub values_f16 : Fields → List ℕ
-values_f16 f = f.index / 2 % 4 ∷ f.second % 8 ∷ values_f f
-
-abbrev pub values_f32 : Fields → List ℕ
-values_f32 f = f.index / 2 % 2 ∷ f.second % 16 ∷ values_f f
-
 -- D and E, of the group, the number of groups and the offset's value
 abbrev pub values_za : Fields → ℕ → ℕ → ℕ → List ℕ
 values_za f group groups offset =
@@ -80,7 +67,6 @@ candidate_by Vector f = build row_b (values_b f)
 candidate_by Saturating f = cond (eqb f.lane 16) (build row_c16 (values_c16 f)) (build row_c32 (values_c32 f))
 candidate_by LongLong f = cond (eqb f.group 2) (build row_d2 (values_d f 2 16)) (build row_d4 (values_d f 4 8))
 candidate_by Long f = cond (eqb f.group 2) (build row_e2 (values_e f 2 16)) (build row_e4 (values_e f 4 8))
-candidate_by ByIndex f = cond (eqb f.lane 16) (build row_f16 (values_f16 f)) (build row_f32 (values_f32 f))
 
 -- the only word that can have the fields
 abbrev pub candidate_of : Fields → ℕ

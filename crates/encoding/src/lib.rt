@@ -1,9 +1,9 @@
 ghost use Rattle.std.specs.Prelude.{◌≡◌, ◌<◌};
 ghost use Rattle.layouts.specs.Layout.{build};
-ghost use Rattle.words.specs.Rows.{row_a, row_b, row_c16, row_c32, row_f16, row_f32, row_d2, row_d4, row_e2, row_e4};
+ghost use Rattle.words.specs.Rows.{row_a, row_b, row_c16, row_c32, row_d2, row_d4, row_e2, row_e4};
 ghost use Rattle.words.specs.Says.{describe};
 ghost use Rattle.encoding.specs.Encode.{Has, Encodes, encoded_says, TheWord};
-ghost use Rattle.encoding.specs.Candidate.{values_a, values_a16, values_a32, values_b, low_c, values_c, values_c16, values_c32, low_f, values_f, values_f16, values_f32, low_za2, low_za4, values_za, values_d, values_e, candidate_of, same_family, same_of, says_only};
+ghost use Rattle.encoding.specs.Candidate.{values_a, values_a16, values_a32, values_b, low_c, values_c, values_c16, values_c32, low_za2, low_za4, values_za, values_d, values_e, candidate_of, same_family, same_of, says_only};
 
 use layouts::*;
 use settings::{Refusal, Settings};
@@ -99,31 +99,6 @@ fn word_c32(f: Fields) -> u32
     0b01000100111 * BIT_21 + f.index / 2 % 2 * BIT_20 + f.second % 16 * BIT_16 + low_c(f)
 }
 
-// The low 16 bits of a word of family F.
-fn low_f(f: Fields) -> u32
-    ensures { (result ≡ build low_f (values_f f)) × (result < 65536) }
-{
-    0b10 * BIT_14
-        + words::bit(f.subtract) * BIT_13
-        + words::bit(f.unsigned) * BIT_12
-        + f.index % 2 * BIT_11
-        + f.part % 2 * BIT_10
-        + f.first % 32 * BIT_5
-        + f.destination % 32
-}
-
-fn word_f16(f: Fields) -> u32
-    ensures { result ≡ build row_f16 (values_f16 f) }
-{
-    0b01000100101 * BIT_21 + f.index / 2 % 4 * BIT_19 + f.second % 8 * BIT_16 + low_f(f)
-}
-
-fn word_f32(f: Fields) -> u32
-    ensures { result ≡ build row_f32 (values_f32 f) }
-{
-    0b01000100111 * BIT_21 + f.index / 2 % 2 * BIT_20 + f.second % 16 * BIT_16 + low_f(f)
-}
-
 // The low 21 bits that families D and E share in their rows of group 2, and in those of group 4.
 fn low_za2(f: Fields) -> u32
     ensures { (result ≡ build low_za2 (values_za f 2 16 0)) × (result < 2097152) }
@@ -193,13 +168,6 @@ fn candidate(f: Fields) -> u32
         }
         Family::LongLong => { if f.group == 2 { word_d2(f) } else { word_d4(f) } }
         Family::Long => { if f.group == 2 { word_e2(f) } else { word_e4(f) } }
-        Family::ByIndex => {
-            if f.lane == 16 {
-                word_f16(f)
-            } else {
-                word_f32(f)
-            }
-        }
     }
 }
 
@@ -269,13 +237,6 @@ fn has(word: u32, f: Fields) -> bool
                 same(f, words::fields_e2(word))
             } else {
                 same(f, words::fields_e4(word))
-            }
-        }
-        Family::ByIndex => {
-            if f.lane == 16 {
-                same(f, words::fields_f16(word))
-            } else {
-                same(f, words::fields_f32(word))
             }
         }
     }

@@ -47,14 +47,14 @@ bad-settings : host_decode (129 ∷ 1 ∷ 0 ∷ 0 ∷ 0 ∷ 0 ∷ 0 ∷ []) 0x2F
 unfolding host_decode settings_of decode_paper valid_settings
 bad-settings = refl
 
--- no family has the number 0, nor 7; unsigned is 0 or 1
+-- no family has the number 0, nor 6; unsigned is 0 or 1
 family_0 : HostEncode (settings 1) (0 ∷ 1 ∷ 1 ∷ 16 ∷ 0 ∷ 7 ∷ 0 ∷ 1 ∷ 2 ∷ 1 ∷ 0 ∷ 0 ∷ []) (of_halves 5 0)
 unfolding fields_from settings_of valid_settings
 family_0 = refl
 
-family_7 : HostEncode (settings 1) (7 ∷ 1 ∷ 1 ∷ 16 ∷ 0 ∷ 7 ∷ 0 ∷ 1 ∷ 2 ∷ 1 ∷ 0 ∷ 0 ∷ []) (of_halves 5 0)
+family_6 : HostEncode (settings 1) (6 ∷ 1 ∷ 1 ∷ 16 ∷ 0 ∷ 7 ∷ 0 ∷ 1 ∷ 2 ∷ 1 ∷ 0 ∷ 0 ∷ []) (of_halves 5 0)
 unfolding fields_from settings_of valid_settings
-family_7 = refl
+family_6 = refl
 
 unsigned_2 : HostEncode (settings 1) (1 ∷ 2 ∷ 1 ∷ 16 ∷ 0 ∷ 7 ∷ 0 ∷ 1 ∷ 2 ∷ 1 ∷ 0 ∷ 0 ∷ []) (of_halves 5 0)
 unfolding fields_from settings_of valid_settings

@@ -78,4 +78,4 @@ HostRead settings text r = Reads (settings_of settings) text (halves r)
 
 -- of the library, 3.0.0: ten thousands are its major number, hundreds its minor one. `CALLINGLAMP_VERSION` of its header is the same.
 abbrev pub HostVersion : ℕ → Type 0
-HostVersion r = r ≡ 40000
+HostVersion r = r ≡ 30000

@@ -96,5 +96,5 @@ pub extern "C" fn callinglamp_read(settings: &[u32; 7], text: &[u8]) -> u64
 pub extern "C" fn callinglamp_version() -> u32
     ensures { HostVersion result }
 {
-    40000
+    30000
 }

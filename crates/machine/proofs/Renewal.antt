@@ -1,4 +1,4 @@
--- A vector that becomes new in its place; C's and F's is built aside, and what is above a V register cleared. Assumes nothing.
+-- A vector that becomes new in its place; C's is built aside, and what is above a V register cleared. Assumes nothing.
 use Prim.Native.Nat.{ℕ, ◌+◌, ◌-◌, ◌*◌, ◌%◌, ◌≤◌, ◌<◌}
 use native.Mathlib.Nat.{add-zero, mul-le-mul}
 use native.Mathlib.Omega.{arith}
@@ -10,7 +10,7 @@ use lib.ListN.{length, drop}
 use Rattle.settings.specs.Lengths.{VectorLength}
 use Rattle.words.specs.Ranges.{Ranges, OfFamily}
 use Rattle.words.specs.declared.Family.{Family}
-use Rattle.words.specs.declared.Family.TheVariants.{ByElement, Vector, Saturating, LongLong, Long, ByIndex}
+use Rattle.words.specs.declared.Family.TheVariants.{ByElement, Vector, Saturating, LongLong, Long}
 use Rattle.words.specs.declared.Fields.{Fields}
 use Rattle.words.proofs.Ranges.{in_family}
 use Rattle.elements.specs.Files.{vector_at}
@@ -22,7 +22,7 @@ use Rattle.bits.specs.Replace.{Replaced, Cleared}
 use Rattle.bits.proofs.Put.{behind}
 use Rattle.bits.specs.declared.Toggles.{Toggles}
 use Rattle.lanes.specs.Recipe.{Recipe}
-use Rattle.recipes.specs.Recipe.{recipe_of, new_length, per_source, Indexed, IndexedLane}
+use Rattle.recipes.specs.Recipe.{recipe_of, new_length, per_source, OfC}
 use Rattle.lanes.specs.Element.{new_bytes, Inside, RegistersThere}
 use Rattle.recipes.proofs.Inside.{new-length, length-new_bytes, inside}
 use Rattle.lanes.proofs.Built.{new_bytes_within}
@@ -53,7 +53,6 @@ some_source Vector = lit< tt
 some_source Saturating = lit< tt
 some_source LongLong = lit< tt
 some_source Long = lit< tt
-some_source ByIndex = lit< tt
 
 -- a source is one register or more
 some_group : (f : Fields) (family : Family) → OfFamily family f → 0 < f.group
@@ -62,22 +61,15 @@ some_group f Vector o = omega arith
 some_group f Saturating o = omega (arith, o.0)
 some_group f LongLong o = two_or-four o.0
 some_group f Long o = two_or-four o.0
-some_group f ByIndex o = omega (arith, o.0)
 
 -- a V register has 16 bytes
 pub v-length : (f : Fields) (w : ℕ) → IntoV f → new_length f.family w ≡ 16
 v-length f w (inl e) = ap (λ (x : Family). new_length x w) e
 v-length f w (inr e) = ap (λ (x : Family). new_length x w) e
 
--- the new bytes of C and F are the whole register
-pub whole-register : (f : Fields) (w : ℕ) → Indexed f → new_length f.family w ≡ w
-whole-register f w (inl e) = ap (λ (x : Family). new_length x w) e
-whole-register f w (inr e) = ap (λ (x : Family). new_length x w) e
-
--- their lanes, as a word has them
-indexed-lane : (f : Fields) → Ranges f → Indexed f → IndexedLane f.lane
-indexed-lane f g (inl e) = (in_family f g Saturating e).1
-indexed-lane f g (inr e) = (in_family f g ByIndex e).1
+-- C's new bytes are the whole register
+pub whole-register : (f : Fields) (w : ℕ) → f.family ≡ Saturating → new_length f.family w ≡ w
+whole-register f w c = ap (λ (x : Family). new_length x w) c
 
 -- so each register that it names is one of the 32
 pub source_lt : (f : Fields) → Ranges f → (f.first < 32) × (f.second < 32)
@@ -102,7 +94,7 @@ module _ {f : Fields} {w : ℕ} {z : List ℕ} (p : Sources f w z) where
       let g : Inside r n w = subst (λ (m : ℕ). Inside r m w) en (inside f p.ranges w p.width i hi) in
       subst (λ (u : List ℕ). Replaced (v * w) t u a a') (e ∙ sym (new_bytes_within r n (drop (v * w) a) (drop (x * w) z) (drop (y * w) z) w g))
 
-  -- the new bytes of a word of A, B, C or F
+  -- the new bytes of a word of A, B or C
   abbrev renewed_bytes : List ℕ
   renewed_bytes = made f 0 (new_length f.family w) w f.destination z f.first f.second z
 
@@ -135,23 +127,26 @@ module _ {f : Fields} {w : ℕ} {z : List ℕ} (p : Sources f w z) where
           (behind at t _ renewed_bytes (zeros (w - new_length f.family w)) z z' z''
           (omega (arith, long-new, length-zeros (w - new_length f.family w), (new-length f.family w p.width).1, register-there f.destination p.ranges.destination)) r above)
 
-  -- where the new bytes are the whole register there is nothing above them to clear: in C and F, and in A and B where registers have 16 bytes
+  -- where the new bytes are the whole register there is nothing above them to clear: in C, and in A and B where registers have 16 bytes
   pub none_above : new_length f.family w ≡ w → {t : Toggles} {z' : List ℕ} → RegisterRenewed f w t z z' → RegisterWritten f w t z z'
   none_above whole {t} {z'} r =
       let none : w - new_length f.family w ≡ 0 = omega (arith, whole) in
       let same : renewed_bytes ++ zeros (w - new_length f.family w) ≡ renewed_bytes = ap (λ (n : ℕ). renewed_bytes ++ zeros n) none ∙ append-nil renewed_bytes in
       subst (λ (u : List ℕ). Replaced (f.destination * w) t u z z') (sym same) r
 
-  -- C and F build the new register aside, in room for it
-  module _ (c : Indexed f) (bytes : ℕ) (eb : bytes ≡ w) where
+  -- C builds the new register aside, in room for it
+  module _ (c : f.family ≡ Saturating) (bytes : ℕ) (eb : bytes ≡ w) where
+    of_c : OfC f.lane
+    of_c = (in_family f p.ranges Saturating c).1
+
     -- the registers that it takes are there
-    pub step-places : (Indexed f × IndexedLane f.lane) × RegistersThere (recipe_of f.family f 0) bytes z (f.destination * w) (f.first * w) (f.second * w)
+    pub step-places : ((f.family ≡ Saturating) × OfC f.lane) × RegistersThere (recipe_of Saturating f 0) bytes z (f.destination * w) (f.first * w) (f.second * w)
     step-places =
         let g = p.ranges in
         let l = source_lt f g in (
-          (c, indexed-lane f g c),
+          (c, of_c),
           record {
-            inside = rw eb (rw (whole-register f w c) at (inside f g w p.width 0 first_source));
+            inside = rw eb (rw c at (inside f g w p.width 0 first_source));
             old = omega (arith, register-there f.destination g.destination);
             first = omega (arith, register-there f.first l.0);
             second = omega (arith, register-there f.second l.1);

@@ -9,7 +9,7 @@ use Rattle.settings.specs.declared.Settings.{Settings}
 use Rattle.settings.proofs.Lengths.{vector-at_most, vector-bits, array-at_most}
 use Rattle.words.specs.Ranges.{Ranges, OfFamily}
 use Rattle.words.specs.declared.Family.{Family}
-use Rattle.words.specs.declared.Family.TheVariants.{ByElement, Vector, Saturating, LongLong, Long, ByIndex}
+use Rattle.words.specs.declared.Family.TheVariants.{ByElement, Vector, Saturating, LongLong, Long}
 use Rattle.words.specs.declared.Fields.{Fields}
 use Rattle.bits.specs.Bits.{over_bytes, rose, fell}
 use Rattle.bits.proofs.Bits.{Once, rose_once, fell_once, bytes_le}
@@ -52,7 +52,6 @@ module _ (s : Settings) (f : Fields) (z za : List ℕ) (p : Ready s z za) where
   written_small Saturating e o = rw e (omega (arith, most))
   written_small LongLong e o = rw e (omega (arith, in_groups o.0))
   written_small Long e o = rw e (omega (arith, in_groups o.0))
-  written_small ByIndex e o = rw e (omega (arith, most))
 
   pub step_small : Ranges f → Small (stepped s f z za)
   unfolding stepped

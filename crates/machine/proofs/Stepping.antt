@@ -10,32 +10,35 @@ use Rattle.settings.specs.declared.Settings.{Settings}
 use Rattle.settings.proofs.Lengths.{vector-length, vector-at_most, vector-bits, same_length}
 use Rattle.words.specs.Ranges.{Ranges}
 use Rattle.words.specs.declared.Family.{Family}
-use Rattle.words.specs.declared.Family.TheVariants.{ByElement, Vector, Saturating, LongLong, Long, ByIndex}
+use Rattle.words.specs.declared.Family.TheVariants.{ByElement, Vector, Saturating, LongLong, Long}
 use Rattle.words.specs.declared.Fields.{Fields}
 use Rattle.bits.specs.Bits.{over_bytes, rose, fell, rises, falls, toggles}
 use Rattle.bits.specs.declared.Toggles.{Toggles}
 use Rattle.bits.proofs.Bits.{Unmoved, rose_unmoved, fell_unmoved, bytes_same}
-use Rattle.recipes.specs.Recipe.{per_source, Indexed}
+use Rattle.recipes.specs.Recipe.{per_source}
 use Rattle.machine.specs.Step.{new_register, z_after, za_after}
 use Rattle.machine.specs.Execute.{Outcome, written, stepped, Stepped}
 use Rattle.machine.specs.Loop.{RegisterWritten, IntoV, IntoZa, Sources, Places, Ready}
 use Rattle.machine.proofs.Registers.{register_is}
 
--- A, B, C and F
+-- A, B and C
 abbrev pub IntoZ : Fields → Type 0
-IntoZ f = IntoV f ⊎ Indexed f
+IntoZ f = (f.family ≡ ByElement) ⊎ ((f.family ≡ Vector) ⊎ (f.family ≡ Saturating))
+
+pub v_into_z : (f : Fields) → IntoV f → IntoZ f
+v_into_z f (inl e) = inl e
+v_into_z f (inr e) = inr (inl e)
 
 -- every family is of one kind or the other
 pub which_file : (f : Fields) → IntoZ f ⊎ IntoZa f
 which_file f = by f.family refl
   where
     by : (family : Family) → f.family ≡ family → IntoZ f ⊎ IntoZa f
-    by ByElement e = inl (inl (inl e))
-    by Vector e = inl (inl (inr e))
-    by Saturating e = inl (inr (inl e))
+    by ByElement e = inl (inl e)
+    by Vector e = inl (inr (inl e))
+    by Saturating e = inl (inr (inr e))
     by LongLong e = inr (inl e)
     by Long e = inr (inr e)
-    by ByIndex e = inl (inr (inr e))
 
 -- what the step is of either kind
 module _ (s : Settings) (f : Fields) (z za : List ℕ) where
@@ -59,8 +62,7 @@ module _ (s : Settings) (f : Fields) (z za : List ℕ) where
 
   pub stepped_z_lem : IntoZ f → stepped s f z za ≡ stepped_z
   unfolding stepped
-  stepped_z_lem (inl (inl e)) = rw e
-  stepped_z_lem (inl (inr e)) = rw e
+  stepped_z_lem (inl e) = rw e
   stepped_z_lem (inr (inl e)) = rw e
   stepped_z_lem (inr (inr e)) = rw e
 
@@ -71,8 +73,7 @@ module _ (s : Settings) (f : Fields) (z za : List ℕ) where
 
 -- written is the bits of the vectors that the word writes
 pub written_z : (s : Settings) (f : Fields) → IntoZ f → written s f ≡ s.vl
-written_z s f (inl (inl e)) = rw e
-written_z s f (inl (inr e)) = rw e
+written_z s f (inl e) = rw e
 written_z s f (inr (inl e)) = rw e
 written_z s f (inr (inr e)) = rw e
 

@@ -5,7 +5,7 @@ use Rattle.settings.specs.Refused.{refusal_number}
 use Rattle.settings.specs.declared.Settings.{Settings}
 use Rattle.words.specs.Decode.{decode_paper}
 use Rattle.words.specs.declared.Family.{Family}
-use Rattle.words.specs.declared.Family.TheVariants.{ByElement, Vector, Saturating, LongLong, Long, ByIndex}
+use Rattle.words.specs.declared.Family.TheVariants.{ByElement, Vector, Saturating, LongLong, Long}
 use Rattle.words.specs.declared.Fields.{Fields}
 use Rattle.bits.specs.Bits.{rises, falls}
 use Rattle.bits.specs.declared.Toggles.{Toggles}
@@ -32,20 +32,17 @@ abbrev pub executed_says : Executed → List ℕ → List ℕ → Outcome
 executed_says (Done c) z za = record { number = 0; rises = c.rises; falls = c.falls; written = c.written; z = z; za = za }
 executed_says (Refused r) z za = refused_with (refusal_number r) z za
 
--- written is VL in A and B (document 02) and in C, VL·group·4 in D, VL·group·2 in E, and VL in F (document 02)
+-- written is VL in A and B (document 02) and in C, VL·group·4 in D, VL·group·2 in E
 abbrev pub written : Settings → Fields → ℕ
-written s f =
-    elim f.family
-    [ ByElement ↦ s.vl | Vector ↦ s.vl | Saturating ↦ s.vl | LongLong ↦ s.vl * f.group * 4 | Long ↦ s.vl * f.group * 2 | ByIndex ↦ s.vl ]
+written s f = elim f.family [ ByElement ↦ s.vl | Vector ↦ s.vl | Saturating ↦ s.vl | LongLong ↦ s.vl * f.group * 4 | Long ↦ s.vl * f.group * 2 ]
 
--- A, B, C and F write Z; D and E write ZA
+-- A, B and C write Z; D and E write ZA
 abbrev pub writes_za : Family → Bool
 writes_za ByElement = false
 writes_za Vector = false
 writes_za Saturating = false
 writes_za LongLong = true
 writes_za Long = true
-writes_za ByIndex = false
 
 -- the step of a word: rises is the number of bits of Z and ZA that were 0 and are 1, and falls of those that were 1 and are 0
 unfoldable pub stepped : Settings → Fields → List ℕ → List ℕ → Outcome

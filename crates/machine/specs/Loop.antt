@@ -23,7 +23,7 @@ pub record Grid (w group stride k first : ℕ) : Type 0 where
 abbrev pub made : Fields → ℕ → ℕ → ℕ → ℕ → List ℕ → ℕ → ℕ → List ℕ → List ℕ
 made f i n w v a x y z = new_bytes (recipe_of f.family f i) n (vector_at w v a) (vector_at w x z) (vector_at w y z)
 
--- the new bytes of a word of A, B, C or F were written into its destination, and t are the bits that rose and fell
+-- the new bytes of a word of A, B or C were written into its destination, and t are the bits that rose and fell
 abbrev pub RegisterRenewed : Fields → ℕ → Toggles → List ℕ → List ℕ → Type 0
 RegisterRenewed f w t z z' = Replaced (f.destination * w) t (made f 0 (new_length f.family w) w f.destination z f.first f.second z) z z'
 

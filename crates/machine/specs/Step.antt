@@ -12,10 +12,10 @@ use Rattle.lanes.specs.Element.{new_bytes}
 abbrev pub register : Settings → List ℕ → ℕ → List ℕ
 register s z r = vector_at (vector_bytes s) r z
 
--- ---- A, B, C, F: into Z
+-- ---- A, B, C: into Z
 
 -- the destination after the step: its new bytes, and zeros above them, since "writing a V register sets the rest of the Z register to zero"
--- (document 02). C's and F's bytes are all new
+-- (document 02). C's bytes are all new
 unfoldable pub new_register : Settings → Fields → List ℕ → List ℕ
 new_register s f z =
     new_bytes (recipe_of f.family f 0) (new_length f.family (vector_bytes s)) (register s z f.destination) (register s z f.first) (register s z f.second)

@@ -3,13 +3,14 @@ ghost use Rattle.settings.specs.Valid.{valid_settings, vector_bytes, array_bytes
 ghost use Rattle.elements.specs.Files.{replaced};
 ghost use Rattle.bits.specs.Bits.{toggles};
 ghost use Rattle.bits.specs.Replace.{Replaced};
-ghost use Rattle.recipes.specs.Recipe.{per_source, Indexed};
+ghost use Rattle.recipes.specs.Recipe.{per_source};
 ghost use Rattle.machine.specs.Modes.{permits};
 ghost use Rattle.machine.specs.Step.{za_after};
 ghost use Rattle.machine.specs.Loop.{made, RegisterRenewed, RegisterWritten, Grid, place, becomes, IntoV, Sources, Places, Ready};
 ghost use Rattle.machine.specs.Execute.{executed_says, written, stepped, Stepped, right_lengths, ExecutePromise};
 ghost use Rattle.machine.specs.Run.{report_of, four_of};
 ghost use Rattle.machine.specs.declared.Executed.TheVariants.{Done};
+ghost use Rattle.words.specs.declared.Family.TheVariants.{Saturating};
 ghost use Rattle.words.specs.Ranges.{Ranges};
 ghost use Rattle.words.specs.Decode.{decode_paper};
 ghost use Rattle.words.specs.Kinds.{fields_as};
@@ -85,11 +86,10 @@ fn write_v(fields: Fields, w: usize, z: &mut [u8]) -> Toggles
     }
 }
 
-// C, F: the destination becomes new. It is built aside, in room for the longest register, since it may be a source. Answers how many bits rose and
-// fell.
-fn step_indexed(fields: Fields, w: usize, z: &mut [u8]) -> Toggles
+// C: the destination becomes new. It is built aside, in room for the longest register, since it may be a source. Answers how many bits rose and fell.
+fn step_saturating(fields: Fields, w: usize, z: &mut [u8]) -> Toggles
     requires sources { Sources fields w z.old }
-    requires indexed { Indexed fields × (w ≤ 64) }
+    requires family_value { (fields.family ≡ Saturating) × (w ≤ 64) }
     ensures { RegisterRenewed fields w result z.old z.new }
 {
     let mut room = [0u8; 64];
@@ -198,7 +198,7 @@ fn step_array(settings: Settings, fields: Fields, k: usize, z: &[u8], za: &mut [
     step_vectors(fields, w, first, stride, k, z, za)
 }
 
-// A, B need SM off. C needs SM on, or SVE2. D, E need SM and ZA on. F's modes are C's.
+// A, B need SM off. C needs SM on, or SVE2. D, E need SM and ZA on.
 fn permitted(features: Features, modes: Modes, family: Family) -> bool
     ensures { result ≡ permits features.0 modes.0 family }
 {
@@ -208,7 +208,6 @@ fn permitted(features: Features, modes: Modes, family: Family) -> bool
         Family::Saturating => modes.contains(Modes::SM) | features.contains(Features::SVE2),
         Family::LongLong => modes.contains(Modes::SM) & modes.contains(Modes::ZA),
         Family::Long => modes.contains(Modes::SM) & modes.contains(Modes::ZA),
-        Family::ByIndex => modes.contains(Modes::SM) | features.contains(Features::SVE2),
     }
 }
 
@@ -234,7 +233,6 @@ fn written_bits(settings: Settings, fields: Fields) -> u32
         Family::Saturating => vl,
         Family::LongLong => vl * group * 4,
         Family::Long => vl * group * 2,
-        Family::ByIndex => vl,
     }
 }
 
@@ -248,7 +246,6 @@ fn per_source(family: Family) -> usize
         Family::Saturating => 1,
         Family::LongLong => 4,
         Family::Long => 2,
-        Family::ByIndex => 1,
     }
 }
 
@@ -262,7 +259,7 @@ fn step_files(settings: Settings, fields: Fields, w: usize, z: &mut [u8], za: &m
     let family = fields.family;
     match family {
         Family::ByElement | Family::Vector => write_v(fields, w, z),
-        Family::Saturating | Family::ByIndex => step_indexed(fields, w, z),
+        Family::Saturating => step_saturating(fields, w, z),
         _ => step_array(settings, fields, per_source(family), z, za),
     }
 }

@@ -83,7 +83,7 @@ field_numbers f =
 
 -- whether there are fields of which these are the numbers. No family has the number 0
 abbrev pub are_fields : List ℕ → Bool
-are_fields n = leb 1 (get_or n field_at.family 0) && leb (get_or n field_at.family 0) 6 && leb (get_or n field_at.unsigned 0) 1 && leb (get_or n field_at.subtract 0) 1
+are_fields n = leb 1 (get_or n field_at.family 0) && leb (get_or n field_at.family 0) 5 && leb (get_or n field_at.unsigned 0) 1 && leb (get_or n field_at.subtract 0) 1
 
 abbrev pub fields_with : Family → List ℕ → Fields
 fields_with family n =

@@ -65,7 +65,7 @@ fn refused(refusal: Refusal, value: u32) -> u64
     of_halves(settings::refusal_number(refusal), value)
 }
 
-// The family of a number from 1 to 6.
+// The family of a number from 1 to 5.
 fn family_of(number: u32) -> Family
     ensures { result ≡ family_of number }
 {
@@ -74,8 +74,7 @@ fn family_of(number: u32) -> Family
         2 => Family::Vector,
         3 => Family::Saturating,
         4 => Family::LongLong,
-        5 => Family::Long,
-        _ => Family::ByIndex,
+        _ => Family::Long,
     }
 }
 
@@ -104,7 +103,7 @@ fn are_fields(numbers: &[u32; 12]) -> bool
     ensures { result ≡ are_fields numbers.now }
 {
     (1 <= numbers[FAMILY])
-        & (numbers[FAMILY] <= 6)
+        & (numbers[FAMILY] <= 5)
         & (numbers[UNSIGNED] <= 1)
         & (numbers[SUBTRACT] <= 1)
 }

@@ -3,19 +3,18 @@ use Prim.Native.Nat.{ℕ, ◌*◌, ◌/◌, ◌%◌, ◌≤◌, ◌<◌}
 use native.Mathlib.Omega.{arith}
 use mathlib.Core.Path.{◌≡◌, refl}
 use mathlib.Core.Logic.{◌⊎◌, inl, inr}
-use mathlib.Core.Bool.{Bool, true, false}
 use mathlib.Core.List.{List}
 use lib.ListN.{length}
 use Rattle.settings.specs.Lengths.{VectorLength}
 use Rattle.words.specs.Ranges.{Ranges, OfFamily}
 use Rattle.words.specs.declared.Family.{Family}
-use Rattle.words.specs.declared.Family.TheVariants.{ByElement, Vector, Saturating, LongLong, Long, ByIndex}
+use Rattle.words.specs.declared.Family.TheVariants.{ByElement, Vector, Saturating, LongLong, Long}
 use Rattle.words.specs.declared.Fields.{Fields}
 use Rattle.elements.specs.Lanes.{IsLane, each, each_segment, Reaches}
 use Rattle.elements.proofs.Lanes.{by-lane}
 use Rattle.lanes.specs.Widths.{Widths}
 use Rattle.lanes.proofs.Widths.{doubled, quadrupled}
-use Rattle.recipes.specs.Recipe.{by_segment, recipe_of, new_length, per_source}
+use Rattle.recipes.specs.Recipe.{recipe_of, new_length, per_source}
 use Rattle.lanes.specs.Element.{new_bytes, Inside}
 use Rattle.lanes.proofs.Built.{length-new}
 
@@ -26,7 +25,6 @@ new-length Vector w v = (refl, v.least)
 new-length Saturating w v = (omega (arith, v.whole), omega arith)
 new-length LongLong w v = (omega (arith, v.whole), omega arith)
 new-length Long w v = (omega (arith, v.whole), omega arith)
-new-length ByIndex w v = (omega (arith, v.whole), omega arith)
 
 -- ---- the choices of the families, for every lane: the last element lies in a register of w bytes
 
@@ -61,7 +59,6 @@ module _ (f : Fields) (g : Ranges f) where
   widths_of Saturating o i = doubled f.lane g.lane
   widths_of LongLong o i = quadrupled o.1
   widths_of Long o i = doubled f.lane g.lane
-  widths_of ByIndex o i = doubled f.lane g.lane
 
   pub widths : (i : ℕ) → Widths (recipe_of f.family f i).lane (recipe_of f.family f i).wide
   widths = widths_of f.family g.of_family
@@ -84,31 +81,20 @@ module _ (f : Fields) (g : Ranges f) where
           second = second;
         }
 
-    -- C and F: what is done with the lanes does not matter
-    segments : (saturating : Bool) → Inside (by_segment saturating f.unsigned f.subtract f.lane f.part f.index) w w
-    segments saturating =
-        record {
-          widths = doubled f.lane g.lane;
-          whole = omega (arith, v.whole);
-          room = omega arith;
-          first = twice_in f.lane g.lane w v.least f.part g.part;
-          second = segment_in f.lane g.lane w v.least f.index v.whole g.index;
-        }
-
     by_family : (family : Family) → OfFamily family f → (i : ℕ) → i < per_source family → Inside (recipe_of family f i) (new_length family w) w
     by_family ByElement o i h =
         given ByElement i o (half_in f.lane g.lane w v.least f.part g.part) (index_in f.lane g.lane w v.least f.index _ g.index)
     by_family Vector o i h =
         let half = half_in f.lane g.lane w v.least f.part g.part in
         given Vector i o half half
-    by_family Saturating o i h = segments true
+    by_family Saturating o i h =
+        given Saturating i o (twice_in f.lane g.lane w v.least f.part g.part) (segment_in f.lane g.lane w v.least f.index v.whole g.index)
     by_family LongLong o i h =
         let fourth = fourth_in o.1 i w h v.least in
         given LongLong i o fourth fourth
     by_family Long o i h =
         let twice = twice_in f.lane g.lane w v.least i h in
         given Long i o twice twice
-    by_family ByIndex o i h = segments false
 
     -- no element too far
     pub inside : (i : ℕ) → i < per_source f.family → Inside (recipe_of f.family f i) (new_length f.family w) w

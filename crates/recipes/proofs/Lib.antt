@@ -1,3 +1,3 @@
 pub mod Inside
-pub mod Indexed
+pub mod Saturating
 pub mod Undone

@@ -8,7 +8,7 @@ use lib.ListN.{length, take}
 use lib.Seq.{take_all, take_at, length-take-le}
 use Rattle.words.specs.Partner.{turned, is_c}
 use Rattle.words.specs.declared.Family.{Family}
-use Rattle.words.specs.declared.Family.TheVariants.{ByElement, Vector, Saturating, LongLong, Long, ByIndex}
+use Rattle.words.specs.declared.Family.TheVariants.{ByElement, Vector, Saturating, LongLong, Long}
 use Rattle.words.specs.declared.Fields.{Fields}
 use Rattle.elements.specs.Lanes.{chosen}
 use Rattle.elements.specs.Elements.{element_of}
@@ -29,7 +29,6 @@ saturates_c Vector f i = refl
 saturates_c Saturating f i = refl
 saturates_c LongLong f i = refl
 saturates_c Long f i = refl
-saturates_c ByIndex f i = refl
 
 -- what r adds is subtracted, and what it subtracts is added
 abbrev pub opposite : Recipe → Recipe
@@ -43,7 +42,6 @@ recipe-turned Vector f i = refl
 recipe-turned Saturating f i = refl
 recipe-turned LongLong f i = refl
 recipe-turned Long f i = refl
-recipe-turned ByIndex f i = refl
 
 undo-lane : (saturating : Bool) (lane wide : ℕ) (unsigned subtract : Bool) (a x y : ℕ) → saturating ≡ false → a < 2 ^ wide
     → step saturating lane wide unsigned (not subtract) (step saturating lane wide unsigned subtract a x y) x y ≡ a

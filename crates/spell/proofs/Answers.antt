@@ -17,7 +17,7 @@ use Rattle.settings.specs.Valid.{valid_settings}
 use Rattle.words.specs.Says.{Described, As, Nothing, describe}
 use Rattle.words.specs.Decode.{enables_family, enables, no_fields, enabled_only, decode_enabled, decode_paper}
 use Rattle.words.specs.declared.Family.{Family}
-use Rattle.words.specs.declared.Family.TheVariants.{ByElement, Vector, Saturating, LongLong, Long, ByIndex}
+use Rattle.words.specs.declared.Family.TheVariants.{ByElement, Vector, Saturating, LongLong, Long}
 use Rattle.words.specs.declared.Fields.{Fields}
 use Rattle.words.proofs.Answers.{decodes_exactly}
 use Rattle.spelling.specs.Spell.{spell, longest_text}
@@ -117,7 +117,6 @@ family_on Vector lane = refl
 family_on Saturating lane = refl
 family_on LongLong lane = elim (eqb lane 8) as (λ (b : Bool). (b || true) ≡ true) [ true ↦ refl | false ↦ refl ]
 family_on Long lane = refl
-family_on ByIndex lane = refl
 
 on : (f : Fields) → enables 31 f ≡ true
 unfolding enables

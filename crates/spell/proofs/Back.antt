@@ -70,7 +70,7 @@ sign_no_digit : (unsigned : Bool) → is_hex_digit (sign_byte unsigned) ≡ fals
 sign_no_digit true = refl
 sign_no_digit false = refl
 
-first_no_digit : (f : Fields) → Each (λ (k : ℕ). is_hex_digit (get_or (fill (letter_values f) (syntax_at k)) 0 0) ≡ false) (below 20)
+first_no_digit : (f : Fields) → Each (λ (k : ℕ). is_hex_digit (get_or (fill (letter_values f) (syntax_at k)) 0 0) ≡ false) (below 18)
 unfolding fill syntax_at letter_values
 first_no_digit f =
     let s = sign_no_digit f.unsigned in
@@ -88,7 +88,7 @@ no_word line e = first_fails (eqb (length line) 8) _ _ _ _ _ _ _ _ e
 text_no-word : (short : Bool) (f : Fields) → is_word (spell short f) ≡ false
 unfolding spell
 text_no-word short f =
-    no_word _ (each_below (λ (k : ℕ). is_hex_digit (get_or (fill (letter_values f) (syntax_at k)) 0 0) ≡ false) 20 (first_no_digit f) (row_for short f) (row_below short f))
+    no_word _ (each_below (λ (k : ℕ). is_hex_digit (get_or (fill (letter_values f) (syntax_at k)) 0 0) ≡ false) 18 (first_no_digit f) (row_for short f) (row_below short f))
 
 pub given_back : GivenBack
 given_back w f lt e =

@@ -18,9 +18,9 @@ use Rattle.syntax.specs.Syntax.{is_number, value_in, fill, TwoDigits, OneByte}
 use Rattle.syntax.specs.Scan.{is_letter, taken, clear, among}
 use Rattle.syntax.proofs.Laws.{number_range, taken-fill}
 use Rattle.words.specs.Says.{As, describe, is_one}
-use Rattle.words.specs.Rows.{row_a, row_b, row_c16, row_c32, row_f16, row_f32, row_d2, row_d4, row_e2, row_e4}
+use Rattle.words.specs.Rows.{row_a, row_b, row_c16, row_c32, row_d2, row_d4, row_e2, row_e4}
 use Rattle.words.specs.declared.Family.{Family}
-use Rattle.words.specs.declared.Family.TheVariants.{ByElement, Vector, Saturating, LongLong, Long, ByIndex}
+use Rattle.words.specs.declared.Family.TheVariants.{ByElement, Vector, Saturating, LongLong, Long}
 use Rattle.words.specs.declared.Fields.{Fields}
 use Rattle.words.proofs.Table.{◌then◌, said_each}
 use Rattle.words.proofs.Ranges.{by_size}
@@ -65,8 +65,6 @@ pub figures : (w : ℕ) (f : Fields) → describe w ≡ As f → Figures f
 figures w f =
     said_each Figures w f
     ((λ _ _. cond-holds Figures (eqb (value row_a w "s") 0b01) _ _ (λ _. of_numbers (omega arith)) (λ _. of_numbers (omega arith)))
-    then (λ _ _. of_numbers (omega arith))
-    then (λ _ _. of_numbers (omega arith))
     then (λ _ _. of_numbers (omega arith))
     then (λ _ _. of_numbers (omega arith))
     then (λ _ _. of_numbers (omega arith))
@@ -211,17 +209,6 @@ c-back s i d n m =
       (λ short. fields_eq _ _ refl refl (add_back s) refl refl refl refl refl refl (one-back n) refl refl),
     )
 
-f-back : (u s : Bool) (i d n m p : ℕ) → p < 2 → Both (plain ByIndex u s 16 p i d n m) × Both (plain ByIndex u s 32 p i d n m)
-unfolding row_for syntax_at among letter_values
-f-back u s i d n m =
-    one_bit (λ (p : ℕ). Both (plain ByIndex u s 16 p i d n m) × Both (plain ByIndex u s 32 p i d n m)) (
-      (λ short. fields_eq _ _ refl (sign-back u) (add_back s) refl refl refl refl refl refl (one-back n) refl refl),
-      (λ short. fields_eq _ _ refl (sign-back u) (add_back s) refl refl refl refl refl refl (one-back n) refl refl),
-    ) (
-      (λ short. fields_eq _ _ refl (sign-back u) (add_back s) refl refl refl refl refl refl (one-back n) refl refl),
-      (λ short. fields_eq _ _ refl (sign-back u) (add_back s) refl refl refl refl refl refl (one-back n) refl refl),
-    )
-
 -- fields of a family that writes ZA
 abbrev grouped : Family → Bool → Bool → ℕ → ℕ → ℕ → ℕ → ℕ → ℕ → Fields
 grouped family u s lane n m g v o =
@@ -254,8 +241,6 @@ both-back w f =
     then (λ _ o. b-back (is_one (value row_b w "U")) (is_one (value row_b w "S")) _ _ _ (value row_b w "Q") (omega arith) (value row_b w "s") (omega arith) o)
     then (λ _ _. (c-back (is_one (value row_c16 w "S")) _ _ _ _ (value row_c16 w "T") (omega arith)).0)
     then (λ _ _. (c-back (is_one (value row_c32 w "S")) _ _ _ _ (value row_c32 w "T") (omega arith)).1)
-    then (λ _ _. (f-back (is_one (value row_f16 w "U")) (is_one (value row_f16 w "S")) _ _ _ _ (value row_f16 w "T") (omega arith)).0)
-    then (λ _ _. (f-back (is_one (value row_f32 w "U")) (is_one (value row_f32 w "S")) _ _ _ _ (value row_f32 w "T") (omega arith)).1)
     then (λ _ _. d-back (is_one (value row_d2 w "U")) (is_one (value row_d2 w "S")) _ _ 2 _ _ (omega arith) (value row_d2 w "z") (omega arith))
     then (λ _ _. d-back (is_one (value row_d4 w "U")) (is_one (value row_d4 w "S")) _ _ 4 _ _ (omega arith) (value row_d4 w "z") (omega arith))
     then (λ _ _. e-back (is_one (value row_e2 w "U")) (is_one (value row_e2 w "S")) _ _ 2 _ _ (omega arith))

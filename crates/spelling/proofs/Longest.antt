@@ -42,10 +42,10 @@ narrow f g c n =
     let e : c - 65 + 65 ≡ c = omega arith in
     rw e at (each_below (λ (i : ℕ). value_in (letter_values f) (i + 65) < cond (one_digit (i + 65)) 10 100) 18 (narrow_at f g) (c - 65) (omega arith))
 
-widths : (k : ℕ) → k < 20 → width one_digit (syntax_at k) ≤ longest_text
+widths : (k : ℕ) → k < 18 → width one_digit (syntax_at k) ≤ longest_text
 unfolding width syntax_at
 widths =
-    each_below (λ (k : ℕ). width one_digit (syntax_at k) ≤ longest_text) 20 (omega arith)
+    each_below (λ (k : ℕ). width one_digit (syntax_at k) ≤ longest_text) 18 (omega arith)
 
 pub no_longer : NoLonger
 unfolding spell

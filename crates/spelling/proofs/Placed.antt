@@ -29,21 +29,21 @@ row_between (s ∷ ss) (suc k) h =
     (omega (arith, r.0), omega (arith, r.1, l), ap₂ (λ (m : ℕ) (x : List ℕ). take m x) n (drop-append-add (text s) (joined ss) (start_in ss k)) ∙ r.2)
 
 -- as the code has them
-pub placed : (k from to : ℕ) (all : List ℕ) → k < 20 → from ≡ start_at k → to ≡ start_at (k + 1) → all ≡ all_rows → Between from to all (syntax_at k)
+pub placed : (k from to : ℕ) (all : List ℕ) → k < 18 → from ≡ start_at k → to ≡ start_at (k + 1) → all ≡ all_rows → Between from to all (syntax_at k)
 unfolding start_at all_rows syntax_at
 placed k from to all h a b c = rw (a, b, c, add-one k) (row_between syntaxes k h)
 
 abbrev row_starts : List ℕ
-row_starts = 0 ∷ 27 ∷ 55 ∷ 82 ∷ 110 ∷ 135 ∷ 163 ∷ 188 ∷ 214 ∷ 239 ∷ 265 ∷ 293 ∷ 321 ∷ 377 ∷ 433 ∷ 488 ∷ 538 ∷ 588 ∷ 637 ∷ 663 ∷ 689 ∷ []
+row_starts = 0 ∷ 27 ∷ 55 ∷ 82 ∷ 110 ∷ 135 ∷ 163 ∷ 188 ∷ 214 ∷ 239 ∷ 265 ∷ 293 ∷ 321 ∷ 377 ∷ 433 ∷ 488 ∷ 538 ∷ 588 ∷ 637 ∷ []
 
-pub starts_are : (k : ℕ) → k < 21 → get_or row_starts k 0 ≡ start_at k
+pub starts_are : (k : ℕ) → k < 19 → get_or row_starts k 0 ≡ start_at k
 unfolding start_at
-starts_are = each_below (λ (k : ℕ). get_or row_starts k 0 ≡ start_at k) 21 (omega arith)
+starts_are = each_below (λ (k : ℕ). get_or row_starts k 0 ≡ start_at k) 19 (omega arith)
 
-pub starts_few : (k : ℕ) → k < 21 → get_or row_starts k 0 ≤ 689
-starts_few = each_below (λ (k : ℕ). get_or row_starts k 0 ≤ 689) 21 (omega arith)
+pub starts_few : (k : ℕ) → k < 19 → get_or row_starts k 0 ≤ 637
+starts_few = each_below (λ (k : ℕ). get_or row_starts k 0 ≤ 637) 19 (omega arith)
 
 -- no row has more than 56 bytes
-pub row-short : (k : ℕ) → k < 20 → length (syntax_at k) ≤ 56
+pub row-short : (k : ℕ) → k < 18 → length (syntax_at k) ≤ 56
 unfolding syntax_at
-row-short = each_below (λ (k : ℕ). length (syntax_at k) ≤ 56) 20 (omega arith)
+row-short = each_below (λ (k : ℕ). length (syntax_at k) ≤ 56) 18 (omega arith)

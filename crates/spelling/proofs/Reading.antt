@@ -14,7 +14,7 @@ use Rattle.settings.specs.declared.Settings.{Settings}
 use Rattle.words.specs.Says.{As, describe}
 use Rattle.words.specs.Decode.{enables, no_fields, decode_paper, decode_enabled}
 use Rattle.words.specs.declared.Family.{Family}
-use Rattle.words.specs.declared.Family.TheVariants.{ByElement, Vector, Saturating, LongLong, Long, ByIndex}
+use Rattle.words.specs.declared.Family.TheVariants.{ByElement, Vector, Saturating, LongLong, Long}
 use Rattle.words.specs.declared.Fields.{Fields}
 use Rattle.words.proofs.Table.{◌then◌}
 use Rattle.encoding.specs.Encode.{Has}
@@ -28,19 +28,19 @@ use Rattle.spelling.proofs.Back.{clear_at, figures, two_digits, read_back}
 
 -- ---- the row of a candidate is the row that it was read by
 
-pub row_again : (k : ℕ) (t : List ℕ) → k < 20 → row_for (ltb 14 k) (candidate_at k t) ≡ k
+pub row_again : (k : ℕ) (t : List ℕ) → k < 18 → row_for (ltb 14 k) (candidate_at k t) ≡ k
 unfolding row_for candidate_at syntax_at taken
 row_again k t h =
-    each_below (λ (j : ℕ). row_for (ltb 14 j) (candidate_at j t) ≡ j) 20
+    each_below (λ (j : ℕ). row_for (ltb 14 j) (candidate_at j t) ≡ j) 18
     (refl then refl then refl then refl then refl then refl then refl then refl then refl then refl then refl then refl then refl then refl then refl then refl
-    then refl then refl then refl then refl then tt)
+    then refl then refl then tt)
     k h
 
-small_choice : (b : Bool) (x y : ℕ) → x < 20 → y < 20 → cond b x y < 20
+small_choice : (b : Bool) (x y : ℕ) → x < 18 → y < 18 → cond b x y < 18
 small_choice true x y h g = h
 small_choice false x y h g = g
 
-row-by-below : (short : Bool) (family : Family) (lane part : ℕ) → row_by short family lane part < 20
+row-by-below : (short : Bool) (family : Family) (lane part : ℕ) → row_by short family lane part < 18
 row-by-below short ByElement lane part =
     small_choice (eqb lane 16) _ _ (small_choice (eqb part 0) 0 1 (omega arith) (omega arith)) (small_choice (eqb part 0) 2 3 (omega arith) (omega arith))
 row-by-below short Vector lane part =
@@ -50,9 +50,8 @@ row-by-below short Saturating lane part = small_choice (eqb lane 16) 10 11 (omeg
 row-by-below short LongLong lane part =
     small_choice short _ _ (small_choice (eqb lane 8) 15 16 (omega arith) (omega arith)) (small_choice (eqb lane 8) 12 13 (omega arith) (omega arith))
 row-by-below short Long lane part = small_choice short 17 14 (omega arith) (omega arith)
-row-by-below short ByIndex lane part = small_choice (eqb lane 16) 18 19 (omega arith) (omega arith)
 
-pub row_below : (short : Bool) (f : Fields) → row_for short f < 20
+pub row_below : (short : Bool) (f : Fields) → row_for short f < 18
 unfolding row_for
 row_below short f = row-by-below short f.family f.lane f.part
 
@@ -78,7 +77,7 @@ pub no-word_of : (t : List ℕ) (k : ℕ) (f : Fields) → f ≡ candidate_at k 
 no-word_of t k f a n w p = n w (rw (a ∙ spelled_candidate p) (record { fits = p.spells.fits; says = p.spells.says }))
 
 -- a word of the candidate is the word of a text that is the candidate's
-pub candidate_spells : (k : ℕ) (t : List ℕ) (f : Fields) (w : ℕ) → k < 20 → f ≡ candidate_at k t → t ≡ fill (letter_values f) (syntax_at k) → Has f w
+pub candidate_spells : (k : ℕ) (t : List ℕ) (f : Fields) (w : ℕ) → k < 18 → f ≡ candidate_at k t → t ≡ fill (letter_values f) (syntax_at k) → Has f w
     → SpellsBy k t w
 unfolding spell
 candidate_spells k t f w h a e has =
@@ -105,7 +104,7 @@ pub one_tried : (t : List ℕ) (k : ℕ) → ((j : ℕ) → j < k → (w : ℕ) 
 one_tried t k a b j h = by_lt j k (λ (l : j < k). a j l) (λ (l : k ≤ j). let e : j ≡ k = omega arith in rw e b)
 
 -- all were
-pub all_tried : (t : List ℕ) (k : ℕ) → 20 ≤ k → ((j : ℕ) → j < k → (w : ℕ) → SpellsBy j t w → ⊥) → (w : ℕ) → Spells t w → ⊥
+pub all_tried : (t : List ℕ) (k : ℕ) → 18 ≤ k → ((j : ℕ) → j < k → (w : ℕ) → SpellsBy j t w → ⊥) → (w : ℕ) → Spells t w → ⊥
 all_tried t k h a w p =
     let b = row_below p.short p.fields in
     a (row_for p.short p.fields) (omega arith) w (record { spells = p; row = refl })

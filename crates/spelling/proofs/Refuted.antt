@@ -78,19 +78,19 @@ row-found (suc n) t k h e =
     (λ (l : k < n). or_right (is_row n t) (row-found n t k l e))
     (λ (l : n ≤ k). let q : k ≡ n = omega arith in or_left (is_text n t) (ap (λ (j : ℕ). is_row j t) (sym q) ∙ e))
 
-refuted : (t : List ℕ) → is_text 20 t ≡ false → (w : ℕ) → Spells t w → ⊥
+refuted : (t : List ℕ) → is_text 18 t ≡ false → (w : ℕ) → Spells t w → ⊥
 refuted t e w p =
     let b : SpellsBy (row_for p.short p.fields) t w = record { spells = p; row = refl } in
-    never_both (is_text 20 t) (row-found 20 t (row_for p.short p.fields) (row_below p.short p.fields) (row_is _ t w b)) e
+    never_both (is_text 18 t) (row-found 18 t (row_for p.short p.fields) (row_below p.short p.fields) (row_is _ t w b)) e
 
 abbrev none_is_text : List String → Bool
 none_is_text [] = true
-none_is_text (s ∷ ss) = not (is_text 20 (text s)) && none_is_text ss
+none_is_text (s ∷ ss) = not (is_text 18 (text s)) && none_is_text ss
 
 each_refuted : (ss : List String) → none_is_text ss ≡ true → Each (λ (s : String). (w : ℕ) → Spells (text s) w → ⊥) ss
 each_refuted [] e = tt
 each_refuted (s ∷ ss) e =
-    let b = both (not (is_text 20 (text s))) (none_is_text ss) e in
+    let b = both (not (is_text 18 (text s))) (none_is_text ss) e in
     (refuted (text s) (not-true _ b.0), each_refuted ss b.1)
 
 pub not_of_language : NotOfLanguage

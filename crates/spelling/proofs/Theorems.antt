@@ -64,7 +64,7 @@ same-nth vs us x y (s ∷ ss) a c (suc j) zero hj hk e =
 same-nth vs us x y (s ∷ ss) a c (suc j) (suc k) hj hk e =
     ap suc (same-nth vs us x y ss (both (apart_from (text s) ss) (all_apart ss) a).1 (λ i. c (suc i)) j k (omega arith) (omega arith) e)
 
-same_row : (vs us : List ℕ) → TwoDigits vs → TwoDigits us → (j k : ℕ) → j < 20 → k < 20 → fill vs (syntax_at j) ≡ fill us (syntax_at k) → j ≡ k
+same_row : (vs us : List ℕ) → TwoDigits vs → TwoDigits us → (j k : ℕ) → j < 18 → k < 18 → fill vs (syntax_at j) ≡ fill us (syntax_at k) → j ≡ k
 unfolding syntax_at
 same_row vs us x y j k hj hk e = same-nth vs us x y syntaxes all_apart_lem clear_at j k hj hk e
 

@@ -6,7 +6,7 @@ use Rattle.syntax.specs.Syntax.{value_in}
 use Rattle.syntax.specs.Scan.{taken}
 use Rattle.words.specs.Numbers.{bit_of}
 use Rattle.words.specs.declared.Family.{Family}
-use Rattle.words.specs.declared.Family.TheVariants.{ByElement, Vector, Saturating, LongLong, Long, ByIndex}
+use Rattle.words.specs.declared.Family.TheVariants.{ByElement, Vector, Saturating, LongLong, Long}
 use Rattle.words.specs.declared.Fields.{Fields}
 use Rattle.spelling.specs.Rows.{syntaxes, syntax_at}
 use Rattle.spelling.specs.Spell.{byte_of, letters}
@@ -30,14 +30,13 @@ start_at k = start_in syntaxes k
 
 -- by the row's number: the family, the lane and the part
 abbrev pub family_at : ℕ → Family
-family_at k =
-    cond (ltb k 4) ByElement (cond (ltb k 10) Vector (cond (ltb k 12) Saturating (cond (ltb k 18) (cond (eqb k 14 || eqb k 17) Long LongLong) ByIndex)))
+family_at k = cond (ltb k 4) ByElement (cond (ltb k 10) Vector (cond (ltb k 12) Saturating (cond (eqb k 14 || eqb k 17) Long LongLong)))
 
 abbrev pub row_lanes : List ℕ
-row_lanes = 16 ∷ 16 ∷ 32 ∷ 32 ∷ 8 ∷ 8 ∷ 16 ∷ 16 ∷ 32 ∷ 32 ∷ 16 ∷ 32 ∷ 8 ∷ 16 ∷ 16 ∷ 8 ∷ 16 ∷ 16 ∷ 16 ∷ 32 ∷ []
+row_lanes = 16 ∷ 16 ∷ 32 ∷ 32 ∷ 8 ∷ 8 ∷ 16 ∷ 16 ∷ 32 ∷ 32 ∷ 16 ∷ 32 ∷ 8 ∷ 16 ∷ 16 ∷ 8 ∷ 16 ∷ 16 ∷ []
 
 abbrev pub row_parts : List ℕ
-row_parts = 0 ∷ 1 ∷ 0 ∷ 1 ∷ 0 ∷ 1 ∷ 0 ∷ 1 ∷ 0 ∷ 1 ∷ 0 ∷ 0 ∷ 0 ∷ 0 ∷ 0 ∷ 0 ∷ 0 ∷ 0 ∷ 0 ∷ 0 ∷ []
+row_parts = 0 ∷ 1 ∷ 0 ∷ 1 ∷ 0 ∷ 1 ∷ 0 ∷ 1 ∷ 0 ∷ 1 ∷ 0 ∷ 0 ∷ 0 ∷ 0 ∷ 0 ∷ 0 ∷ 0 ∷ 0 ∷ []
 
 -- the value of a letter
 abbrev pub value_named : List ℕ → String → ℕ

@@ -24,8 +24,7 @@ preferred : map (text_of false)
     (0x0F532841 ∷ 0x4F532841 ∷ 0x2FA32041 ∷ 0x6FBD6BDF
     ∷ 0x2E23A041 ∷ 0x6E23A041 ∷ 0x0E638041 ∷ 0x4E63A041 ∷ 0x2EA38041 ∷ 0x4EBF8041
     ∷ 0x44B32841 ∷ 0x44EF3C41
-    ∷ 0xC1A56391 ∷ 0xC1E223C8 ∷ 0xC1E20800
-    ∷ 0x44B38841 ∷ 0x44E3BC41 ∷ 0x44BFBFDF ∷ 0x44F08400 ∷ [])
+    ∷ 0xC1A56391 ∷ 0xC1E223C8 ∷ 0xC1E20800 ∷ [])
     ≡ map text
     ("smlal v1.4s, v2.4h, v3.h[5]"
     ∷ "smlal2 v1.4s, v2.8h, v3.h[5]"
@@ -42,10 +41,6 @@ preferred : map (text_of false)
     ∷ "umlall za.s[w11, 4:7, vgx4], { z28.b-z31.b }, { z4.b-z7.b }"
     ∷ "smlsll za.d[w9, 0:3, vgx2], { z30.h-z31.h }, { z2.h-z3.h }"
     ∷ "smlal za.s[w8, 0:1, vgx2], { z0.h-z1.h }, { z2.h-z3.h }"
-    ∷ "smlalb z1.s, z2.h, z3.h[5]"
-    ∷ "umlslt z1.d, z2.s, z3.s[1]"
-    ∷ "umlslt z31.s, z30.h, z7.h[7]"
-    ∷ "smlalt z0.d, z0.s, z0.s[2]"
     ∷ [])
 unfolding spell describe row_for letter_values syntax_at fill decimal decimal_up_to
 preferred = refl
@@ -76,13 +71,6 @@ not_texts =
     -- the arrangement of smlal2, an unsigned word of C, no word at all
     ∷ "smlal v1.4s, v2.8h, v3.h[5]"
     ∷ "uqdmlalb z1.s, z2.h, z3.h[5]"
-    -- of F: a second source above 7 and above 15, no index 8 of .h and no 4 of .s, no lane of 8 bits, neither bottom nor top
-    ∷ "smlalb z1.s, z2.h, z8.h[5]"
-    ∷ "umlslt z1.d, z2.s, z16.s[1]"
-    ∷ "smlalb z1.s, z2.h, z3.h[8]"
-    ∷ "umlslt z1.d, z2.s, z3.s[4]"
-    ∷ "smlalb z1.h, z2.b, z3.b[5]"
-    ∷ "smlal z1.s, z2.h, z3.h[5]"
     ∷ ""
     -- an odd first register, a group of three, another group, offsets 1:4, w7, w12
     ∷ "smlsll za.s[w8, 0:3, vgx2], { z1.b-z2.b }, { z2.b-z3.b }"

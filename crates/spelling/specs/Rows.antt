@@ -31,9 +31,6 @@ syntaxes =
     ∷ "UmlSll za.s[wR, O:P], { zN.b-zK.b }, { zM.b-zL.b }"
     ∷ "UmlSll za.d[wR, O:P], { zN.h-zK.h }, { zM.h-zL.h }"
     ∷ "UmlSl za.s[wR, O:P], { zN.h-zK.h }, { zM.h-zL.h }"
-    -- 18: F, lanes 16 and 32
-    ∷ "UmlSlT zD.s, zN.h, zM.h[I]"
-    ∷ "UmlSlT zD.d, zN.s, zM.s[I]"
     ∷ []
 
 abbrev pub nth : List String → ℕ → List ℕ

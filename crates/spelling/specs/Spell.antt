@@ -4,7 +4,7 @@ use Prim.Native.String.{String}
 use Rattle.pieces.specs.Pieces.{text}
 use Rattle.syntax.specs.Syntax.{fill}
 use Rattle.words.specs.declared.Family.{Family}
-use Rattle.words.specs.declared.Family.TheVariants.{ByElement, Vector, Saturating, LongLong, Long, ByIndex}
+use Rattle.words.specs.declared.Family.TheVariants.{ByElement, Vector, Saturating, LongLong, Long}
 use Rattle.words.specs.declared.Fields.{Fields}
 use Rattle.spelling.specs.Rows.{syntax_at}
 
@@ -20,7 +20,6 @@ row_by short Vector lane part = cond (eqb lane 8) (by_part part 4 5) (cond (eqb 
 row_by short Saturating lane part = cond (eqb lane 16) 10 11
 row_by short LongLong lane part = cond short (cond (eqb lane 8) 15 16) (cond (eqb lane 8) 12 13)
 row_by short Long lane part = cond short 17 14
-row_by short ByIndex lane part = cond (eqb lane 16) 18 19
 
 -- the number of the row of fields; `short` leaves vgx out, where there is any
 unfoldable pub row_for : Bool → Fields → ℕ
@@ -32,7 +31,7 @@ row_for short f = row_by short f.family f.lane f.part
 abbrev pub byte_of : String → ℕ
 byte_of s = get_or (text s) 0 0
 
--- U=1 is unsigned, S=1 subtracts; C, F: T=1 is top
+-- U=1 is unsigned, S=1 subtracts; C: T=1 is top
 abbrev pub sign_byte : Bool → ℕ
 sign_byte unsigned = cond unsigned (byte_of "u") (byte_of "s")
 
@@ -49,7 +48,6 @@ last_offset Vector offset = offset
 last_offset Saturating offset = offset
 last_offset LongLong offset = offset + 3
 last_offset Long offset = offset + 1
-last_offset ByIndex offset = offset
 
 -- the values A to Z: those that are named, and 0
 abbrev pub letters : List (String × ℕ) → List ℕ

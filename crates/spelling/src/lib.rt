@@ -37,13 +37,13 @@ pub fn longest_text() -> usize
 
 // ---- the rows
 
-const ROWS: usize = 20;
+const ROWS: usize = 18;
 
 // Room for a text: the longest row has 56 bytes, and no byte of a row says more than two.
 const OUT: usize = 112;
 
 // The rows, one behind the other.
-const SYNTAXES: [u8; 689] = *b"UmlSl vD.4s, vN.4h, vM.h[I]\
+const SYNTAXES: [u8; 637] = *b"UmlSl vD.4s, vN.4h, vM.h[I]\
     UmlSl2 vD.4s, vN.8h, vM.h[I]\
     UmlSl vD.2d, vN.2s, vM.s[I]\
     UmlSl2 vD.2d, vN.4s, vM.s[I]\
@@ -60,25 +60,22 @@ const SYNTAXES: [u8; 689] = *b"UmlSl vD.4s, vN.4h, vM.h[I]\
     UmlSl za.s[wR, O:P, vgxG], { zN.h-zK.h }, { zM.h-zL.h }\
     UmlSll za.s[wR, O:P], { zN.b-zK.b }, { zM.b-zL.b }\
     UmlSll za.d[wR, O:P], { zN.h-zK.h }, { zM.h-zL.h }\
-    UmlSl za.s[wR, O:P], { zN.h-zK.h }, { zM.h-zL.h }\
-    UmlSlT zD.s, zN.h, zM.h[I]\
-    UmlSlT zD.d, zN.s, zM.s[I]";
+    UmlSl za.s[wR, O:P], { zN.h-zK.h }, { zM.h-zL.h }";
 
 // Handed out once for all that is done with them: the compiler makes a constant array anew in each function that names it.
-fn rows() -> [u8; 689]
+fn rows() -> [u8; 637]
     ensures { result ≡ all_rows }
 {
     SYNTAXES
 }
 
 // Where each row begins, and where the last one ends.
-const STARTS: [u16; 21] = [
-    0, 27, 55, 82, 110, 135, 163, 188, 214, 239, 265, 293, 321, 377, 433, 488, 538, 588, 637, 663,
-    689,
+const STARTS: [u16; 19] = [
+    0, 27, 55, 82, 110, 135, 163, 188, 214, 239, 265, 293, 321, 377, 433, 488, 538, 588, 637,
 ];
 
 fn start_at(k: usize) -> usize
-    requires { k < 21 }
+    requires { k < 19 }
     ensures { result ≡ start_at k }
 {
     STARTS[k] as usize
@@ -103,7 +100,6 @@ fn row_of(f: Fields) -> u32
         Family::Saturating => either(lane == 16, 10, 11),
         Family::LongLong => either(lane == 8, 12, 13),
         Family::Long => 14,
-        Family::ByIndex => either(lane == 16, 18, 19),
     }
 }
 
@@ -119,7 +115,6 @@ fn last_offset(family: Family, offset: u32) -> u32
         Family::Saturating => offset,
         Family::LongLong => offset + 3,
         Family::Long => offset + 1,
-        Family::ByIndex => offset,
     }
 }
 
@@ -167,7 +162,7 @@ fn values_of(f: Fields) -> [u32; 26]
 
 // The text of a word's fields by a row, at the start of `out`.
 fn put_fields(out: &mut [u8], k: usize, f: Fields) -> usize
-    requires { (k < 20) × (112 ≤ length out.old) × Figures f }
+    requires { (k < 18) × (112 ≤ length out.old) × Figures f }
     ensures { Stands (fill (letter_values f) (syntax_at k)) out.old out.new result }
 {
     let all = rows();
@@ -215,13 +210,13 @@ pub fn print(settings: Settings, word: u32, room: &mut [u8]) -> Printed
 // ---- the fields of a text
 
 const LANES: [u32; ROWS] = [
-    16, 16, 32, 32, 8, 8, 16, 16, 32, 32, 16, 32, 8, 16, 16, 8, 16, 16, 16, 32,
+    16, 16, 32, 32, 8, 8, 16, 16, 32, 32, 16, 32, 8, 16, 16, 8, 16, 16,
 ];
 
-const PARTS: [u32; ROWS] = [0, 1, 0, 1, 0, 1, 0, 1, 0, 1, 0, 0, 0, 0, 0, 0, 0, 0, 0, 0];
+const PARTS: [u32; ROWS] = [0, 1, 0, 1, 0, 1, 0, 1, 0, 1, 0, 0, 0, 0, 0, 0, 0, 0];
 
 fn family_at(k: usize) -> Family
-    requires { k < 20 }
+    requires { k < 18 }
     ensures { result ≡ family_at k }
 {
     if k < 4 {
@@ -233,9 +228,6 @@ fn family_at(k: usize) -> Family
     if k < 12 {
         return Family::Saturating;
     }
-    if 17 < k {
-        return Family::ByIndex;
-    }
     if (k == 14) | (k == 17) {
         return Family::Long;
     }
@@ -243,14 +235,14 @@ fn family_at(k: usize) -> Family
 }
 
 fn lane_at(k: usize) -> u32
-    requires { k < 20 }
+    requires { k < 18 }
     ensures { result ≡ get_or row_lanes k 0 }
 {
     LANES[k]
 }
 
 fn part_at(k: usize) -> u32
-    requires { k < 20 }
+    requires { k < 18 }
     ensures { (result ≡ get_or row_parts k 0) × (result < 2) }
 {
     PARTS[k]
@@ -280,7 +272,7 @@ fn value(values: &[u32; 26], letter: u8) -> u32
 
 // The fields of a row's number and of its values. The bytes of `s`, `t` and `u` are 115 to 117.
 fn fields_of(k: usize, values: &[u32; 26]) -> Fields
-    requires { k < 20 }
+    requires { k < 18 }
     ensures { result ≡ fields_by k values.now }
 {
     let first = value(values, b'N');
@@ -312,7 +304,7 @@ const NO_WORD: u64 = 4294967296;
 
 // Whether the text is that of a word's fields by the row.
 fn is_theirs(text: &[u8], k: usize, f: Fields) -> bool
-    requires { (k < 20) × Figures f }
+    requires { (k < 18) × Figures f }
     ensures { (result ≡ true → text.now ≡ fill (letter_values f) (syntax_at k)) × (text.now ≡ fill (letter_values f) (syntax_at k) → result ≡ true) }
 {
     let mut out = text_room();
@@ -322,7 +314,7 @@ fn is_theirs(text: &[u8], k: usize, f: Fields) -> bool
 
 // The word of a text by a row, by which the text can have no other fields than these.
 fn compared(text: &[u8], k: usize, f: Fields) -> u64
-    requires { (k < 20) × (f ≡ candidate_at k text.now) }
+    requires { (k < 18) × (f ≡ candidate_at k text.now) }
     ensures { TheWord (SpellsBy k text.now) result }
 {
     let word = encoding::word_with(f);
@@ -337,7 +329,7 @@ fn compared(text: &[u8], k: usize, f: Fields) -> u64
 
 // The word of a text by a row.
 fn word_by(text: &[u8], all: &[u8], k: usize) -> u64
-    requires { (k < 20) × (all.now ≡ all_rows) }
+    requires { (k < 18) × (all.now ≡ all_rows) }
     ensures { TheWord (SpellsBy k text.now) result }
 {
     let from = start_at(k);

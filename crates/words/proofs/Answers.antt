@@ -15,7 +15,7 @@ use Rattle.words.specs.Kinds.{fields_as, says_as, family_as, enables_said}
 use Rattle.words.specs.Partner.{partner_word, turned, is_c, partnered_says, partner_paper}
 use Rattle.words.specs.Sign.{partner_in}
 use Rattle.words.specs.declared.Family.{Family}
-use Rattle.words.specs.declared.Family.TheVariants.{ByElement, Vector, Saturating, LongLong, Long, ByIndex}
+use Rattle.words.specs.declared.Family.TheVariants.{ByElement, Vector, Saturating, LongLong, Long}
 use Rattle.words.specs.declared.Fields.{Fields}
 use Rattle.words.specs.declared.Kind.{Kind}
 use Rattle.words.specs.declared.Decoded.{Decoded}
@@ -124,7 +124,6 @@ not_c family = (by family, λ n e. never_both (is_c family) (ap is_c e) n)
     by Saturating h = absurd (h refl)
     by LongLong h = refl
     by Long h = refl
-    by ByIndex h = refl
 
 -- flipping `subtract` asks for no other feature
 enables-turned : (features : ℕ) (f : Fields) → enables features (turned f) ≡ enables features f

@@ -8,8 +8,8 @@ use mathlib.Core.Bool.{true, false}
 use Rattle.laws.proofs.Tests.{never_both, one_of_three}
 use Rattle.layouts.specs.Layout.{value}
 use Rattle.layouts.proofs.Apart.{other_top}
-use Rattle.words.specs.Rows.{row_b, row_c16, row_c32, row_f16, row_f32, row_d2, row_d4, row_e2, row_e4}
-use Rattle.words.specs.Says.{Described, As, Nothing, fields_b, table_indexed, table_za, says_first, describe}
+use Rattle.words.specs.Rows.{row_b, row_c16, row_c32, row_d2, row_d4, row_e2, row_e4}
+use Rattle.words.specs.Says.{Described, As, Nothing, fields_b, table_c, table_za, says_first, describe}
 use Rattle.words.specs.Decode.{enables, enables_family, no_fields, enabled_only, decode_enabled}
 use Rattle.words.specs.Kinds.{says_as, fields_said, fields_as, family_as, enables_said, answer_to}
 use Rattle.words.specs.declared.Kind.{Kind}
@@ -20,14 +20,14 @@ use Rattle.words.proofs.Ranges.{in_range}
 
 module _ (w : ℕ) (h : w < 2 ^ 32) where
   -- what the rows after A and B say of a word, by its top byte
-  pub only_indexed : w / 16777216 ≡ 0b01000100 → says_first (table_indexed ++ table_za) w ≡ says_first table_indexed w
-  only_indexed e = let n : w / 16777216 ≢ 0b11000001 = λ z. omega arith in rw (other_top row_d2 w refl h n, other_top row_d4 w refl h n, other_top row_e2 w refl h n, other_top row_e4 w refl h n)
+  pub only_c : w / 16777216 ≡ 0b01000100 → says_first (table_c ++ table_za) w ≡ says_first table_c w
+  only_c e = let n : w / 16777216 ≢ 0b11000001 = λ z. omega arith in rw (other_top row_d2 w refl h n, other_top row_d4 w refl h n, other_top row_e2 w refl h n, other_top row_e4 w refl h n)
 
-  pub only-za : w / 16777216 ≡ 0b11000001 → says_first (table_indexed ++ table_za) w ≡ says_first table_za w
-  only-za e = let n : w / 16777216 ≢ 0b01000100 = λ z. omega arith in rw (other_top row_c16 w refl h n, other_top row_c32 w refl h n, other_top row_f16 w refl h n, other_top row_f32 w refl h n)
+  pub only-za : w / 16777216 ≡ 0b11000001 → says_first (table_c ++ table_za) w ≡ says_first table_za w
+  only-za e = let n : w / 16777216 ≢ 0b01000100 = λ z. omega arith in rw (other_top row_c16 w refl h n, other_top row_c32 w refl h n)
 
-  pub no_row : w / 16777216 ≢ 0b01000100 → w / 16777216 ≢ 0b11000001 → says_first (table_indexed ++ table_za) w ≡ Nothing
-  no_row n m = rw (other_top row_c16 w refl h n, other_top row_c32 w refl h n, other_top row_f16 w refl h n, other_top row_f32 w refl h n, other_top row_d2 w refl h m, other_top row_d4 w refl h m, other_top row_e2 w refl h m, other_top row_e4 w refl h m)
+  pub no_row : w / 16777216 ≢ 0b01000100 → w / 16777216 ≢ 0b11000001 → says_first (table_c ++ table_za) w ≡ Nothing
+  no_row n m = rw (other_top row_c16 w refl h n, other_top row_c32 w refl h n, other_top row_d2 w refl h m, other_top row_d4 w refl h m, other_top row_e2 w refl h m, other_top row_e4 w refl h m)
 
 -- ---- what a kind says
 
@@ -39,8 +39,6 @@ family_as_lem kind.ByElement32 w = refl
 family_as_lem kind.Vector w = refl
 family_as_lem kind.Saturating16 w = refl
 family_as_lem kind.Saturating32 w = refl
-family_as_lem kind.ByIndex16 w = refl
-family_as_lem kind.ByIndex32 w = refl
 family_as_lem kind.LongLong2 w = refl
 family_as_lem kind.LongLong4 w = refl
 family_as_lem kind.Long2 w = refl
@@ -55,8 +53,6 @@ enables_as features kind.ByElement32 w n = refl
 enables_as features kind.Vector w n = refl
 enables_as features kind.Saturating16 w n = refl
 enables_as features kind.Saturating32 w n = refl
-enables_as features kind.ByIndex16 w n = refl
-enables_as features kind.ByIndex32 w n = refl
 enables_as features kind.LongLong2 w n = refl
 enables_as features kind.LongLong4 w n = refl
 enables_as features kind.Long2 w n = refl

@@ -7,17 +7,16 @@ use Rattle.laws.proofs.Bits.{one_bit}
 use Rattle.words.specs.Says.{is_one}
 use Rattle.words.specs.Numbers.{family_number, family_of, bit_of}
 use Rattle.words.specs.declared.Family.{Family}
-use Rattle.words.specs.declared.Family.TheVariants.{ByElement, Vector, Saturating, LongLong, Long, ByIndex}
+use Rattle.words.specs.declared.Family.TheVariants.{ByElement, Vector, Saturating, LongLong, Long}
 
 -- ---- families
 
-pub family_range : (a : Family) → (1 ≤ family_number a) × (family_number a ≤ 6)
+pub family_range : (a : Family) → (1 ≤ family_number a) × (family_number a ≤ 5)
 family_range ByElement = omega arith
 family_range Vector = omega arith
 family_range Saturating = omega arith
 family_range LongLong = omega arith
 family_range Long = omega arith
-family_range ByIndex = omega arith
 
 pub family-back : (a : Family) → family_of (family_number a) ≡ a
 family-back ByElement = refl
@@ -25,20 +24,18 @@ family-back Vector = refl
 family-back Saturating = refl
 family-back LongLong = refl
 family-back Long = refl
-family-back ByIndex = refl
 
 pub family_eq : (a b : Family) → family_number a ≡ family_number b → a ≡ b
 family_eq a b e = sym (family-back a) ∙ ap family_of e ∙ family-back b
 
-pub number_family : (n : ℕ) → 1 ≤ n → n ≤ 6 → family_number (family_of n) ≡ n
+pub number_family : (n : ℕ) → 1 ≤ n → n ≤ 5 → family_number (family_of n) ≡ n
 number_family zero p q = absurd (omega arith)
 number_family (suc zero) p q = refl
 number_family (suc (suc zero)) p q = refl
 number_family (suc (suc (suc zero))) p q = refl
 number_family (suc (suc (suc (suc zero)))) p q = refl
 number_family (suc (suc (suc (suc (suc zero))))) p q = refl
-number_family (suc (suc (suc (suc (suc (suc zero)))))) p q = refl
-number_family (suc (suc (suc (suc (suc (suc (suc n))))))) p q = absurd (omega arith)
+number_family (suc (suc (suc (suc (suc (suc n)))))) p q = absurd (omega arith)
 
 -- ---- bits
 

@@ -13,7 +13,7 @@ use Rattle.words.specs.Says.{As, table, describe, SaidBy}
 use Rattle.words.specs.Partner.{partner_word, turned}
 use Rattle.words.specs.Sign.{sign_of}
 use Rattle.words.specs.declared.Family.{Family}
-use Rattle.words.specs.declared.Family.TheVariants.{ByElement, Vector, Saturating, LongLong, Long, ByIndex}
+use Rattle.words.specs.declared.Family.TheVariants.{ByElement, Vector, Saturating, LongLong, Long}
 use Rattle.words.specs.declared.Fields.{Fields}
 use Rattle.words.proofs.Table.{described_exactly, flipped_in}
 use Rattle.words.proofs.Turned.{Turns, flipped_reserved, flipped-fields, table_turns}
@@ -24,7 +24,6 @@ sign_fits Vector = lit< tt
 sign_fits Saturating = lit< tt
 sign_fits LongLong = lit< tt
 sign_fits Long = lit< tt
-sign_fits ByIndex = lit< tt
 
 module _ (w : ℕ) (f : Fields) (e : describe w ≡ As f) where
   said : SaidBy table w f

@@ -51,8 +51,6 @@ in_range w f =
     then (λ _ o. ranges (b-lane (value row_b w "s") (omega arith) o) (omega arith) refl)
     then (λ _ _. ranges (inr (inl refl)) (omega arith) (refl, inl refl))
     then (λ _ _. ranges (inr (inr refl)) (omega arith) (refl, inr refl))
-    then (λ _ _. ranges (inr (inl refl)) (omega arith) (refl, inl refl))
-    then (λ _ _. ranges (inr (inr refl)) (omega arith) (refl, inr refl))
     then (λ _ _. ranges (wider d) (omega arith) (inl refl, d, omega arith, omega arith, omega arith))
     then (λ _ _. ranges (wider d) (omega arith) (inr refl, d, omega arith, omega arith, omega arith))
     then (λ _ _. ranges (inr (inl refl)) (omega arith) (inl refl, refl, omega arith, omega arith, omega arith))

@@ -30,7 +30,7 @@ table-apart : all_apart (layouts table) ≡ true
 table-apart = refl
 
 -- each row of the table is 32 bits wide
-pub table_32 : map size (layouts table) ≡ 32 ∷ 32 ∷ 32 ∷ 32 ∷ 32 ∷ 32 ∷ 32 ∷ 32 ∷ 32 ∷ 32 ∷ []
+pub table_32 : map size (layouts table) ≡ 32 ∷ 32 ∷ 32 ∷ 32 ∷ 32 ∷ 32 ∷ 32 ∷ 32 ∷ []
 table_32 = refl
 
 -- a row apart from others shares no word with any of them

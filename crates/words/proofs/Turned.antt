@@ -17,7 +17,7 @@ use Rattle.words.specs.Says.{Row, table, fields_a16, fields_a32, is_one}
 use Rattle.words.specs.Partner.{turned}
 use Rattle.words.specs.Sign.{sign_at, sign_of}
 use Rattle.words.specs.declared.Family.{Family}
-use Rattle.words.specs.declared.Family.TheVariants.{ByElement, Vector, Saturating, LongLong, Long, ByIndex}
+use Rattle.words.specs.declared.Family.TheVariants.{ByElement, Vector, Saturating, LongLong, Long}
 use Rattle.words.proofs.Numbers.{bit-back}
 use Rattle.words.proofs.Table.{◌then◌}
 
@@ -88,8 +88,6 @@ table_turns =
     then turns Vector (λ w. refl) refl (λ v. refl) (λ v. refl) (λ v. rw (s-back v))
     then turns Saturating (λ w. refl) refl (λ v. refl) (λ v. refl) (λ v. rw (s-back v))
     then turns Saturating (λ w. refl) refl (λ v. refl) (λ v. refl) (λ v. rw (s-back v))
-    then turns ByIndex (λ w. refl) refl (λ v. refl) (λ v. refl) (λ v. rw (s-back v))
-    then turns ByIndex (λ w. refl) refl (λ v. refl) (λ v. refl) (λ v. rw (s-back v))
     then turns LongLong (λ w. refl) refl (λ v. refl) (λ v. refl) (λ v. rw (s-back v))
     then turns LongLong (λ w. refl) refl (λ v. refl) (λ v. refl) (λ v. rw (s-back v))
     then turns Long (λ w. refl) refl (λ v. refl) (λ v. refl) (λ v. rw (s-back v))

@@ -6,19 +6,18 @@ use Rattle.settings.specs.Refused.{refusal_number}
 use Rattle.settings.specs.declared.Settings.{Settings}
 use Rattle.words.specs.Says.{Described, As, Nothing, describe}
 use Rattle.words.specs.declared.Family.{Family}
-use Rattle.words.specs.declared.Family.TheVariants.{ByElement, Vector, Saturating, LongLong, Long, ByIndex}
+use Rattle.words.specs.declared.Family.TheVariants.{ByElement, Vector, Saturating, LongLong, Long}
 use Rattle.words.specs.declared.Fields.{Fields}
 use Rattle.words.specs.declared.Decoded.{Decoded}
 use Rattle.words.specs.declared.Decoded.TheVariants.{Word, Refused}
 
--- A, B need AdvSIMD. C needs SVE2 or SME. D, E need SME2; D with z=1, which is lane 16, also I16I64. F's features are C's (document 02)
+-- A, B need AdvSIMD. C needs SVE2 or SME. D, E need SME2; D with z=1, which is lane 16, also I16I64
 abbrev pub enables_family : ℕ → Family → ℕ → Bool
 enables_family features ByElement lane = has_features features adv_simd
 enables_family features Vector lane = has_features features adv_simd
 enables_family features Saturating lane = has_features features sve2 || has_features features sme
 enables_family features LongLong lane = has_features features sme2 && (eqb lane 8 || has_features features i16i64)
 enables_family features Long lane = has_features features sme2
-enables_family features ByIndex lane = has_features features sve2 || has_features features sme
 
 unfoldable pub enables : ℕ → Fields → Bool
 enables features f = enables_family features f.family f.lane

@@ -1,11 +1,11 @@
 -- Only contracts and proofs use this: of what kind a word is, and what the kind says of the word.
 use Rattle.std.specs.Prelude.{ℕ, Bool, false}
 use Rattle.layouts.specs.Layout.{value}
-use Rattle.words.specs.Rows.{row_a, row_b, row_c16, row_c32, row_f16, row_f32, row_d2, row_d4, row_e2, row_e4}
-use Rattle.words.specs.Says.{Described, As, Nothing, fields_a16, fields_a32, fields_b, fields_c, fields_f, fields_d, fields_e}
+use Rattle.words.specs.Rows.{row_a, row_b, row_c16, row_c32, row_d2, row_d4, row_e2, row_e4}
+use Rattle.words.specs.Says.{Described, As, Nothing, fields_a16, fields_a32, fields_b, fields_c, fields_d, fields_e}
 use Rattle.words.specs.Decode.{enables, no_fields}
 use Rattle.words.specs.declared.Family.{Family}
-use Rattle.words.specs.declared.Family.TheVariants.{ByElement, Vector, Saturating, LongLong, Long, ByIndex}
+use Rattle.words.specs.declared.Family.TheVariants.{ByElement, Vector, Saturating, LongLong, Long}
 use Rattle.words.specs.declared.Fields.{Fields}
 use Rattle.words.specs.declared.Kind.{Kind}
 use Rattle.words.specs.declared.Kind.TheVariants as kind
@@ -17,8 +17,6 @@ says_as kind.ByElement32 w = As (fields_a32 (value row_a w))
 says_as kind.Vector w = As (fields_b (value row_b w))
 says_as kind.Saturating16 w = As (fields_c 16 (value row_c16 w))
 says_as kind.Saturating32 w = As (fields_c 32 (value row_c32 w))
-says_as kind.ByIndex16 w = As (fields_f 16 (value row_f16 w))
-says_as kind.ByIndex32 w = As (fields_f 32 (value row_f32 w))
 says_as kind.LongLong2 w = As (fields_d 2 (value row_d2 w))
 says_as kind.LongLong4 w = As (fields_d 4 (value row_d4 w))
 says_as kind.Long2 w = As (fields_e 2 (value row_e2 w))
@@ -42,8 +40,6 @@ family_as kind.ByElement32 = ByElement
 family_as kind.Vector = Vector
 family_as kind.Saturating16 = Saturating
 family_as kind.Saturating32 = Saturating
-family_as kind.ByIndex16 = ByIndex
-family_as kind.ByIndex32 = ByIndex
 family_as kind.LongLong2 = LongLong
 family_as kind.LongLong4 = LongLong
 family_as kind.Long2 = Long

@@ -6,7 +6,7 @@ use Rattle.settings.specs.declared.Settings.{Settings}
 use Rattle.words.specs.Says.{Row, table}
 use Rattle.words.specs.Decode.{decode_paper}
 use Rattle.words.specs.declared.Family.{Family}
-use Rattle.words.specs.declared.Family.TheVariants.{ByElement, Vector, Saturating, LongLong, Long, ByIndex}
+use Rattle.words.specs.declared.Family.TheVariants.{ByElement, Vector, Saturating, LongLong, Long}
 use Rattle.words.specs.declared.Fields.{Fields}
 use Rattle.words.specs.declared.Partnered.{Partnered}
 use Rattle.words.specs.declared.Partnered.TheVariants.{Word, Refused}
@@ -49,7 +49,6 @@ is_c Vector = false
 is_c Saturating = true
 is_c LongLong = false
 is_c Long = false
-is_c ByIndex = false
 
 -- after decode: its refusal, or 6 for family C, or the partner
 abbrev pub partner_after : ℕ × Fields → ℕ → ℕ × ℕ

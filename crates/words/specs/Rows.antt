@@ -1,4 +1,4 @@
--- Document 01, "Layouts, bit 31 first"; F is document 02's, request Four, with the bits of Arm's listing.
+-- Document 01, "Layouts, bit 31 first".
 use Rattle.layouts.specs.Layout.{Layout, row}
 
 abbrev pub row_a : Layout
@@ -24,9 +24,3 @@ row_e2 = row "110000011 1 1 mmmm 0 0 vv 010 nnnn 0 U S 0 oo"
 
 abbrev pub row_e4 : Layout
 row_e4 = row "110000011 1 1 mmm 0 1 0 vv 010 nnn 0 0 U S 0 oo"
-
-abbrev pub row_f16 : Layout
-row_f16 = row "01000100 10 1 ii mmm 10 S U i T nnnnn ddddd"
-
-abbrev pub row_f32 : Layout
-row_f32 = row "01000100 11 1 i mmmm 10 S U i T nnnnn ddddd"

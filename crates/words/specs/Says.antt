@@ -1,10 +1,10 @@
--- Document 01, below the layouts: what a word of each row says, and which sizes are reserved; of F document 02, request Four.
+-- Document 01, below the layouts: what a word of each row says, and which sizes are reserved.
 use Rattle.std.specs.Prelude.{ℕ, ◌+◌, ◌*◌, ◌^◌, ◌≡◌, Bool, true, false, not, ◌||◌, cond, eqb}
 use mathlib.Core.List.{List, [], ◌∷◌, ◌++◌, Memᴰ}
 use Rattle.layouts.specs.Layout.{Layout, matches, Letters, value}
-use Rattle.words.specs.Rows.{row_a, row_b, row_c16, row_c32, row_f16, row_f32, row_d2, row_d4, row_e2, row_e4}
+use Rattle.words.specs.Rows.{row_a, row_b, row_c16, row_c32, row_d2, row_d4, row_e2, row_e4}
 use Rattle.words.specs.declared.Family.{Family}
-use Rattle.words.specs.declared.Family.TheVariants.{ByElement, Vector, Saturating, LongLong, Long, ByIndex}
+use Rattle.words.specs.declared.Family.TheVariants.{ByElement, Vector, Saturating, LongLong, Long}
 use Rattle.words.specs.declared.Fields.{Fields}
 
 -- what a word says, whatever the features: fields, or nothing where no row matches or the size is reserved
@@ -77,13 +77,13 @@ fields_b v = by_vector v (8 * 2 ^ v "s")
 abbrev pub reserved_b : Letters → Bool
 reserved_b v = eqb (v "s") 0b11
 
--- C and F, of the signs, a lane, an index and a second source
-abbrev pub by_index : Family → Bool → Bool → Letters → ℕ → ℕ → ℕ → Fields
-by_index family unsigned subtract v lane index second =
+-- C, of a lane, an index and a second source
+abbrev pub saturating : Letters → ℕ → ℕ → ℕ → Fields
+saturating v lane index second =
     record {
-      family = family;
-      unsigned = unsigned;
-      subtract = subtract;
+      family = Saturating;
+      unsigned = false;
+      subtract = is_one (v "S");
       lane = lane;
       part = v "T";
       index = index;
@@ -95,13 +95,9 @@ by_index family unsigned subtract v lane index second =
       offset = 0;
     }
 
--- the index joins its high and low i bits; C has unsigned 0
+-- the index joins its high and low i bits
 abbrev pub fields_c : ℕ → Letters → Fields
-fields_c lane v = by_index Saturating false (is_one (v "S")) v lane (v "i") (v "m")
-
--- F's fields are C's, with unsigned from U
-abbrev pub fields_f : ℕ → Letters → Fields
-fields_f lane v = by_index ByIndex (is_one (v "U")) (is_one (v "S")) v lane (v "i") (v "m")
+fields_c lane v = saturating v lane (v "i") (v "m")
 
 -- D and E, of a lane, the two sources, the group and the offset: the select register is W(8+vv)
 abbrev pub into_za : Family → Letters → ℕ → ℕ → ℕ → ℕ → ℕ → Fields
@@ -145,16 +141,16 @@ entry_b = record { layout = row_b; reserved = reserved_b; fields = fields_b }
 abbrev pub entry : Layout → (Letters → Fields) → Row
 entry layout fields = record { layout = layout; reserved = λ v. false; fields = fields }
 
--- the rows of C and F
-abbrev pub table_indexed : List Row
-table_indexed = entry row_c16 (fields_c 16) ∷ entry row_c32 (fields_c 32) ∷ entry row_f16 (fields_f 16) ∷ entry row_f32 (fields_f 32) ∷ []
+-- the rows of C
+abbrev pub table_c : List Row
+table_c = entry row_c16 (fields_c 16) ∷ entry row_c32 (fields_c 32) ∷ []
 
 -- the rows that write ZA
 abbrev pub table_za : List Row
 table_za = entry row_d2 (fields_d 2) ∷ entry row_d4 (fields_d 4) ∷ entry row_e2 (fields_e 2) ∷ entry row_e4 (fields_e 4) ∷ []
 
 abbrev pub table : List Row
-table = entry_a ∷ entry_b ∷ table_indexed ++ table_za
+table = entry_a ∷ entry_b ∷ table_c ++ table_za
 
 -- what a word of the row says
 abbrev pub says_of : Row → ℕ → Described

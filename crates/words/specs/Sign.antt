@@ -3,7 +3,7 @@ use Rattle.std.specs.Prelude.{ℕ, ◌^◌, cond}
 use Rattle.std.specs.int_of.Bits.{bit_xor}
 use Rattle.words.specs.Partner.{is_c}
 use Rattle.words.specs.declared.Family.{Family}
-use Rattle.words.specs.declared.Family.TheVariants.{ByElement, Vector, Saturating, LongLong, Long, ByIndex}
+use Rattle.words.specs.declared.Family.TheVariants.{ByElement, Vector, Saturating, LongLong, Long}
 
 -- the bit
 abbrev pub sign_at : Family → ℕ
@@ -12,7 +12,6 @@ sign_at Vector = 13
 sign_at Saturating = 12
 sign_at LongLong = 3
 sign_at Long = 3
-sign_at ByIndex = 13
 
 -- the word that has only S set
 abbrev pub sign_of : Family → ℕ

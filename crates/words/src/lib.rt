@@ -1,8 +1,8 @@
 ghost use Rattle.std.specs.Prelude.{◌≡◌, ◌*◌, ◌^◌, ◌<◌};
 ghost use Rattle.layouts.specs.Layout.{matches, value};
 ghost use Rattle.words.specs.Numbers.{family_number, bit_of};
-ghost use Rattle.words.specs.Rows.{row_a, row_b, row_c16, row_c32, row_f16, row_f32, row_d2, row_d4, row_e2, row_e4};
-ghost use Rattle.words.specs.Says.{by_element, fields_a16, fields_a32, by_vector, by_index, fields_c, fields_f, into_za, fields_d, fields_e, As, entry_a, entry_b, table_indexed, table_za, says_of, says_first, describe as describePaper};
+ghost use Rattle.words.specs.Rows.{row_a, row_b, row_c16, row_c32, row_d2, row_d4, row_e2, row_e4};
+ghost use Rattle.words.specs.Says.{by_element, fields_a16, fields_a32, by_vector, saturating, fields_c, into_za, fields_d, fields_e, As, entry_a, entry_b, table_c, table_za, says_of, says_first, describe as describePaper};
 ghost use Rattle.words.specs.Decode.{enables_family, enables as enablesPaper, decoded_says, decode_paper};
 ghost use Rattle.words.specs.Kinds.{fields_as, says_as, family_as, enables_said, answer_to};
 ghost use Rattle.words.specs.Partner.{partnered_says, PartnerPromise};
@@ -11,7 +11,7 @@ ghost use Rattle.words.specs.Sign.{partner_in};
 use layouts::*;
 use settings::{Features, Refusal, Settings};
 
-// The families of document 01, A to E, and of document 02, F, by what they do.
+// The families of document 01, A to E, by what they do.
 #[derive(Drop)]
 pub enum Family {
     // A: by element.
@@ -24,8 +24,6 @@ pub enum Family {
     LongLong,
     // E: into two ZA vectors a source vector, twice the lane.
     Long,
-    // F: by index, with the elements of C and products that wrap.
-    ByIndex,
 }
 
 // What a word says. A field that the family lacks is 0, and the group 1.
@@ -49,7 +47,7 @@ pub struct Fields {
     pub offset: u32,
 }
 
-// Which fields a word has: A, C and F by their lane, D and E by their group. A kind is one byte, so that a word can be refused
+// Which fields a word has: A and C by their lane, D and E by their group. A kind is one byte, so that a word can be refused
 // before any field is read.
 #[derive(Drop)]
 pub enum Kind {
@@ -58,8 +56,6 @@ pub enum Kind {
     Vector,
     Saturating16,
     Saturating32,
-    ByIndex16,
-    ByIndex32,
     LongLong2,
     LongLong4,
     Long2,
@@ -90,7 +86,6 @@ pub fn family_number(family: Family) -> u32
         Family::Saturating => 3,
         Family::LongLong => 4,
         Family::Long => 5,
-        Family::ByIndex => 6,
     }
 }
 
@@ -136,20 +131,6 @@ fn is_c32(w: u32) -> bool
     ensures { result ≡ matches row_c32 w }
 {
     (w / BIT_13 % 8 == 0b001) & (w / BIT_21 % 2048 == 0b01000100111)
-}
-
-// 01000100 10 1 ii mmm 10 S U i T nnnnn ddddd
-fn is_f16(w: u32) -> bool
-    ensures { result ≡ matches row_f16 w }
-{
-    (w / BIT_14 % 4 == 0b10) & (w / BIT_21 % 2048 == 0b01000100101)
-}
-
-// 01000100 11 1 i mmmm 10 S U i T nnnnn ddddd
-fn is_f32(w: u32) -> bool
-    ensures { result ≡ matches row_f32 w }
-{
-    (w / BIT_14 % 4 == 0b10) & (w / BIT_21 % 2048 == 0b01000100111)
 }
 
 // 110000011 z 1 mmmm 0 0 vv 000 nnnn 0 U S 0 0 o
@@ -272,22 +253,13 @@ pub fn fields_b(w: u32, lane: u32) -> Fields
     }
 }
 
-// T, n and d stand at the same bits in the four rows of C and F.
-fn indexed_fields(
-    family: Family,
-    unsigned: bool,
-    subtract: bool,
-    w: u32,
-    lane: u32,
-    index: u32,
-    second: u32,
-) -> Fields
-    ensures { result ≡ by_index family unsigned subtract (value row_c16 w) lane index second }
+fn saturating_fields(w: u32, lane: u32, index: u32, second: u32) -> Fields
+    ensures { result ≡ saturating (value row_c16 w) lane index second }
 {
     Fields {
-        family: family,
-        unsigned: unsigned,
-        subtract: subtract,
+        family: Family::Saturating,
+        unsigned: false,
+        subtract: w / BIT_12 % 2 == 1,
         lane: lane,
         part: w / BIT_10 % 2,
         index: index,
@@ -303,67 +275,13 @@ fn indexed_fields(
 pub fn fields_c16(w: u32) -> Fields
     ensures { result ≡ fields_c 16 (value row_c16 w) }
 {
-    let subtract = w / BIT_12 % 2 == 1;
-    let index = w / BIT_19 % 4 * 2 + w / BIT_11 % 2;
-    indexed_fields(
-        Family::Saturating,
-        false,
-        subtract,
-        w,
-        16,
-        index,
-        w / BIT_16 % 8,
-    )
+    saturating_fields(w, 16, w / BIT_19 % 4 * 2 + w / BIT_11 % 2, w / BIT_16 % 8)
 }
 
 pub fn fields_c32(w: u32) -> Fields
     ensures { result ≡ fields_c 32 (value row_c32 w) }
 {
-    let subtract = w / BIT_12 % 2 == 1;
-    let index = w / BIT_20 % 2 * 2 + w / BIT_11 % 2;
-    indexed_fields(
-        Family::Saturating,
-        false,
-        subtract,
-        w,
-        32,
-        index,
-        w / BIT_16 % 16,
-    )
-}
-
-pub fn fields_f16(w: u32) -> Fields
-    ensures { result ≡ fields_f 16 (value row_f16 w) }
-{
-    let unsigned = w / BIT_12 % 2 == 1;
-    let subtract = w / BIT_13 % 2 == 1;
-    let index = w / BIT_19 % 4 * 2 + w / BIT_11 % 2;
-    indexed_fields(
-        Family::ByIndex,
-        unsigned,
-        subtract,
-        w,
-        16,
-        index,
-        w / BIT_16 % 8,
-    )
-}
-
-pub fn fields_f32(w: u32) -> Fields
-    ensures { result ≡ fields_f 32 (value row_f32 w) }
-{
-    let unsigned = w / BIT_12 % 2 == 1;
-    let subtract = w / BIT_13 % 2 == 1;
-    let index = w / BIT_20 % 2 * 2 + w / BIT_11 % 2;
-    indexed_fields(
-        Family::ByIndex,
-        unsigned,
-        subtract,
-        w,
-        32,
-        index,
-        w / BIT_16 % 16,
-    )
+    saturating_fields(w, 32, w / BIT_20 % 2 * 2 + w / BIT_11 % 2, w / BIT_16 % 16)
 }
 
 // U, S and vv stand at the same bits in the four rows of D and E.
@@ -476,21 +394,15 @@ fn kind_b(w: u32) -> Kind
     Kind::Vector
 }
 
-// The kind of a word by the rows of C and F.
-fn kind_indexed(w: u32) -> Kind
-    ensures { says_first table_indexed w ≡ says_as result w }
+// The kind of a word by the rows of C.
+fn kind_c(w: u32) -> Kind
+    ensures { says_first table_c w ≡ says_as result w }
 {
     if is_c16(w) {
         return Kind::Saturating16;
     }
     if is_c32(w) {
         return Kind::Saturating32;
-    }
-    if is_f16(w) {
-        return Kind::ByIndex16;
-    }
-    if is_f32(w) {
-        return Kind::ByIndex32;
     }
     Kind::Nothing
 }
@@ -514,8 +426,8 @@ fn kind_za(w: u32) -> Kind
     Kind::Nothing
 }
 
-// The kind of a word, whatever the features. The rows of C and F fix all of the top byte, and so do those of D and E: a word
-// with another top byte needs none of their tests.
+// The kind of a word, whatever the features. The rows of C fix all of the top byte, and so do those of D and E: a word with
+// another top byte needs none of their tests.
 pub fn kind_of(w: u32) -> Kind
     ensures { describePaper w ≡ says_as result w }
 {
@@ -526,7 +438,7 @@ pub fn kind_of(w: u32) -> Kind
         return kind_b(w);
     }
     match w / BIT_24 {
-        0b01000100 => kind_indexed(w),
+        0b01000100 => kind_c(w),
         0b11000001 => kind_za(w),
         _ => Kind::Nothing,
     }
@@ -542,8 +454,6 @@ pub fn kind_family(kind: Kind) -> Family
         Kind::Vector => Family::Vector,
         Kind::Saturating16 => Family::Saturating,
         Kind::Saturating32 => Family::Saturating,
-        Kind::ByIndex16 => Family::ByIndex,
-        Kind::ByIndex32 => Family::ByIndex,
         Kind::LongLong2 => Family::LongLong,
         Kind::LongLong4 => Family::LongLong,
         Kind::Long2 => Family::Long,
@@ -564,8 +474,6 @@ pub fn fields_of(kind: Kind, w: u32) -> Fields
         Kind::Vector => fields_b(w, lane_b(w / BIT_22 % 4)),
         Kind::Saturating16 => fields_c16(w),
         Kind::Saturating32 => fields_c32(w),
-        Kind::ByIndex16 => fields_f16(w),
-        Kind::ByIndex32 => fields_f32(w),
         Kind::LongLong2 => fields_d2(w),
         Kind::LongLong4 => fields_d4(w),
         Kind::Long2 => fields_e2(w),
@@ -585,7 +493,6 @@ fn enables_family(features: Features, family: Family, lane: u32) -> bool
             features.contains(Features::SME2) & ((lane == 8) | features.contains(Features::I16I64))
         }
         Family::Long => features.contains(Features::SME2),
-        Family::ByIndex => features.contains(Features::SVE2) | features.contains(Features::SME),
     }
 }
 
@@ -620,8 +527,6 @@ fn decoded_as(kind: Kind, word: u32) -> Decoded
         Kind::Vector => Decoded::Word(fields_b(word, lane_b(word / BIT_22 % 4))),
         Kind::Saturating16 => Decoded::Word(fields_c16(word)),
         Kind::Saturating32 => Decoded::Word(fields_c32(word)),
-        Kind::ByIndex16 => Decoded::Word(fields_f16(word)),
-        Kind::ByIndex32 => Decoded::Word(fields_f32(word)),
         Kind::LongLong2 => Decoded::Word(fields_d2(word)),
         Kind::LongLong4 => Decoded::Word(fields_d4(word)),
         Kind::Long2 => Decoded::Word(fields_e2(word)),
@@ -655,7 +560,6 @@ fn partner_in(family: Family, word: u32) -> Partnered
         Family::Saturating => Partnered::Refused(Refusal::NoPartner),
         Family::LongLong => Partnered::Word(word ^ BIT_3),
         Family::Long => Partnered::Word(word ^ BIT_3),
-        Family::ByIndex => Partnered::Word(word ^ BIT_13),
     }
 }
 

@@ -46,15 +46,6 @@ word-e2-requires c κs = search rules
 word-e4-requires : tie.Need-word-e4-requires
 word-e4-requires c κs = search rules
 
-enum-told-6 : tie.Need-enum-told-6
-enum-told-6 c = search rules
-
-word-f16-requires : tie.Need-word-f16-requires
-word-f16-requires c κs = search rules
-
-word-f32-requires : tie.Need-word-f32-requires
-word-f32-requires c κs = search rules
-
 returns : tie.Need-returns
 returns c = rw c.before.before.before.enum_told.given.1 (search by-numbers)
 
@@ -82,12 +73,6 @@ returns-8 c = rw c.before.before.before.enum-told5.given.1 (search by-numbers)
 returns-9 : tie.Need-returns-9
 returns-9 c = rw c.before.before.before.enum-told5.given.1 (search by-numbers)
 
-returns-10 : tie.Need-returns-10
-returns-10 c = rw c.before.before.before.enum-told6.given.1 (search by-numbers)
-
-returns-11 : tie.Need-returns-11
-returns-11 c = rw c.before.before.before.enum-told6.given.1 (search by-numbers)
-
 pub candidate-spec : {M : Type 1} → statement M
 candidate-spec =
     tie.close
@@ -106,9 +91,6 @@ candidate-spec =
     enum-told-5
     word-e2-requires
     word-e4-requires
-    enum-told-6
-    word-f16-requires
-    word-f32-requires
     returns
     returns-2
     returns-3
@@ -117,6 +99,4 @@ candidate-spec =
     returns-6
     returns-7
     returns-8
-    returns-9
-    returns-10
-    returns-11)
+    returns-9)

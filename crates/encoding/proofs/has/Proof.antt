@@ -2,7 +2,7 @@
 use mathlib.Core.Path.{refl, ap, ◌∙◌}
 use borrow.Author.Rules.{rules}
 use Rattle.laws.proofs.Tests.{cond_yes, cond_no, cond_eq, cond_ne}
-use Rattle.words.specs.declared.Family.TheVariants.{ByElement, Vector, Saturating, LongLong, Long, ByIndex}
+use Rattle.words.specs.declared.Family.TheVariants.{ByElement, Vector, Saturating, LongLong, Long}
 use Rattle.encoding.specs.Candidate.{same_of}
 use Rattle.encoding.proofs.Own.{own}
 use Rattle.encoding.proofs.has.Statement.{statement}
@@ -76,21 +76,6 @@ fields-e4-requires c κs = search rules
 
 same-requires-9 : tie.Need-same-requires-9
 same-requires-9 c κs = search rules
-
-enum-told-6 : tie.Need-enum-told-6
-enum-told-6 c = search rules
-
-fields-f16-requires : tie.Need-fields-f16-requires
-fields-f16-requires c κs = search rules
-
-same-requires-10 : tie.Need-same-requires-10
-same-requires-10 c κs = search rules
-
-fields-f32-requires : tie.Need-fields-f32-requires
-fields-f32-requires c κs = search rules
-
-same-requires-11 : tie.Need-same-requires-11
-same-requires-11 c κs = search rules
 
 returns : tie.Need-returns
 returns c =
@@ -171,22 +156,6 @@ returns-10 c =
     own Long args.f args.word _ m.enum-told5.given.1 m.before.before.requires
     (cond_ne _ _ _ _ _ k.if5.false (c.same9.ensures ∙ ap (same_of args.f) c.before.fields-e4.ensures))
 
-returns-11 : tie.Need-returns-11
-returns-11 c =
-    let k = c.before.before in
-    let m = k.before.before in
-    let args = m.before.before.args in
-    own ByIndex args.f args.word _ m.enum-told6.given.1 m.before.before.requires
-    (cond_eq _ _ _ _ _ k.if6.true (c.same10.ensures ∙ ap (same_of args.f) c.before.fields-f16.ensures))
-
-returns-12 : tie.Need-returns-12
-returns-12 c =
-    let k = c.before.before in
-    let m = k.before.before in
-    let args = m.before.before.args in
-    own ByIndex args.f args.word _ m.enum-told6.given.1 m.before.before.requires
-    (cond_ne _ _ _ _ _ k.if6.false (c.same11.ensures ∙ ap (same_of args.f) c.before.fields-f32.ensures))
-
 pub has-spec : {M : Type 1} → statement M
 has-spec =
     tie.close
@@ -214,11 +183,6 @@ has-spec =
     same-requires-8
     fields-e4-requires
     same-requires-9
-    enum-told-6
-    fields-f16-requires
-    same-requires-10
-    fields-f32-requires
-    same-requires-11
     returns
     returns-2
     returns-3
@@ -228,6 +192,4 @@ has-spec =
     returns-7
     returns-8
     returns-9
-    returns-10
-    returns-11
-    returns-12)
+    returns-10)

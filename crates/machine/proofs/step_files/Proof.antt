@@ -1,56 +1,48 @@
 -- `machine::step_files` meets its contract, family by family. Assumes nothing.
-use mathlib.Core.Path.{◌≡◌, refl, sym, ◌∙◌}
-use mathlib.Core.Bool.{false}
+use mathlib.Core.Path.{◌≡◌}
 use mathlib.Core.Logic.{◌⊎◌, inl, inr, ⊎_elim}
-use Prim.Native.Nat.{ℕ}
-use lib.Dec.{eqb}
-use borrow.Author.Tests.{eqb-false}
+use Prim.Native.Nat.{ℕ, ◌<◌}
+use native.Mathlib.Omega.{arith}
+use lib.Dec.{lit<}
 use borrow.Author.Rules.{rules}
-use Rattle.words.specs.declared.Family.TheVariants.{ByElement, Vector, Saturating, LongLong, Long, ByIndex}
-use Rattle.recipes.specs.Recipe.{Indexed}
+use Rattle.words.specs.declared.Family.TheVariants.{ByElement, Vector, Saturating, LongLong, Long}
 use Rattle.machine.specs.Loop.{IntoV, IntoZa, Sources}
 use Rattle.machine.proofs.Renewal.{whole-register, none_above}
-use Rattle.machine.proofs.Stepping.{which_file, sources_of, short, places_of, z-done, za-done}
+use Rattle.machine.proofs.Stepping.{IntoZ, v_into_z, which_file, sources_of, short, places_of, z-done, za-done}
 use Rattle.machine.proofs.step_files.Statement.{statement}
 use Rattle.machine.proofs.step_files.Tie as tie
 
--- an arm of the variants a and b is not that of variant n
-other : {tag : ℕ} (a b n : ℕ) → eqb n a ≡ false → eqb n b ≡ false → (tag ≡ a) ⊎ (tag ≡ b) → tag ≡ n → ⊥
-other a b n x y (inl p) e = eqb-false n a x (sym e ∙ p)
-other a b n x y (inr p) e = eqb-false n b y (sym e ∙ p)
-
--- so the first arm is that of A and B, the second that of C and F, and the last that of D and E
-into-v : (c : tie.At-match-keys1) → IntoV c.before.before.before.args.fields
-into-v c =
-    let f = c.before.before.before.args.fields in
-    let k = c.match.keys1 in
-    ⊎_elim
-    (⊎_elim
-    (λ (v : IntoV f). v)
-    (⊎_elim (λ (e : f.family ≡ Saturating). absurd (other 0 1 2 refl refl k (rw e))) (λ (e : f.family ≡ ByIndex). absurd (other 0 1 5 refl refl k (rw e)))))
-    (⊎_elim (λ (e : f.family ≡ LongLong). absurd (other 0 1 3 refl refl k (rw e))) (λ (e : f.family ≡ Long). absurd (other 0 1 4 refl refl k (rw e))))
-    (which_file f)
-
-indexed : (c : tie.At-match-keys2) → Indexed c.before.before.before.args.fields
-indexed c =
-    let f = c.before.before.before.args.fields in
-    let k = c.match.keys2 in
-    ⊎_elim
-    (⊎_elim
-    (⊎_elim (λ (e : f.family ≡ ByElement). absurd (other 2 5 0 refl refl k (rw e))) (λ (e : f.family ≡ Vector). absurd (other 2 5 1 refl refl k (rw e))))
-    (λ (i : Indexed f). i))
-    (⊎_elim (λ (e : f.family ≡ LongLong). absurd (other 2 5 3 refl refl k (rw e))) (λ (e : f.family ≡ Long). absurd (other 2 5 4 refl refl k (rw e))))
-    (which_file f)
+-- the last arm is that of D and E
+not-early : {tag : ℕ} (n : ℕ) → n < 3 → (tag ≡ 3) ⊎ (tag ≡ 4) → tag ≡ n → ⊥
+not-early n h (inl a) e = omega arith
+not-early n h (inr a) e = omega arith
 
 into-za : (c : tie.At-match-keys3) → IntoZa c.before.before.before.args.fields
 into-za c =
     let f = c.before.before.before.args.fields in
-    let k = c.match.keys3 in
+    ⊎_elim
+    (λ (z : IntoZ f). absurd (⊎_elim
+    (λ (e : f.family ≡ ByElement). not-early 0 (lit< tt) c.match.keys3 (rw e))
+    (⊎_elim (λ (e : f.family ≡ Vector). not-early 1 (lit< tt) c.match.keys3 (rw e)) (λ (e : f.family ≡ Saturating). not-early 2 (lit< tt) c.match.keys3 (rw e)))
+    z))
+    (λ (a : IntoZa f). a)
+    (which_file f)
+
+-- the first arm is that of A and B
+not_late : {tag : ℕ} (n : ℕ) → 1 < n → (tag ≡ 0) ⊎ (tag ≡ 1) → tag ≡ n → ⊥
+not_late n h (inl a) e = omega arith
+not_late n h (inr a) e = omega arith
+
+into_v : (c : tie.At-match-keys1) → IntoV c.before.before.before.args.fields
+into_v c =
+    let f = c.before.before.before.args.fields in
     ⊎_elim
     (⊎_elim
-    (⊎_elim (λ (e : f.family ≡ ByElement). absurd (other 3 4 0 refl refl k (rw e))) (λ (e : f.family ≡ Vector). absurd (other 3 4 1 refl refl k (rw e))))
-    (⊎_elim (λ (e : f.family ≡ Saturating). absurd (other 3 4 2 refl refl k (rw e))) (λ (e : f.family ≡ ByIndex). absurd (other 3 4 5 refl refl k (rw e)))))
-    (λ (a : IntoZa f). a)
+    (λ (e : f.family ≡ ByElement). inl e)
+    (⊎_elim (λ (e : f.family ≡ Vector). inr e) (λ (e : f.family ≡ Saturating). absurd (not_late 2 (lit< tt) c.match.keys1 (rw e)))))
+    (⊎_elim
+    (λ (e : f.family ≡ LongLong). absurd (not_late 3 (lit< tt) c.match.keys1 (rw e)))
+    (λ (e : f.family ≡ Long). absurd (not_late 4 (lit< tt) c.match.keys1 (rw e))))
     (which_file f)
 
 -- what is asked of Z, at the function's entry
@@ -58,13 +50,16 @@ sources : (s : tie.Start) → Sources s.args.fields s.args.w s.args.z.now
 sources s = sources_of s.args.settings s.args.fields s.args.z.now s.args.za.now s.requires.0 s.requires.1.0 s.args.w s.requires.1.1
 
 write-v-requires : tie.Need-write-v-requires
-write-v-requires c κs = let m = c.before in (sources m.before.before.before, into-v m)
+write-v-requires c κs = let m = c.before in (sources m.before.before.before, into_v m)
 
-step-indexed-requires : tie.Need-step-indexed-requires
-step-indexed-requires c κs =
-    let m = c.before in
-    let s = m.before.before.before in
-    (sources s, (indexed m, short s.args.settings s.args.fields s.args.z.now s.args.za.now s.requires.0 s.requires.1.0 s.args.w s.requires.1.1))
+enum_told : tie.Need-enum-told
+enum_told c = search rules
+
+step-saturating-requires : tie.Need-step-saturating-requires
+step-saturating-requires c κs =
+    let t = c.before in
+    let s = t.before.before.before.before in
+    (sources s, (t.enum_told.given.1, short s.args.settings s.args.fields s.args.z.now s.args.za.now s.requires.0 s.requires.1.0 s.args.w s.requires.1.1))
 
 per-source-requires : tie.Need-per-source-requires
 per-source-requires c κs = search rules
@@ -85,7 +80,7 @@ returns c =
     let m = r.before.before in
     let s = m.before.before.before in
     z-done s.args.settings s.args.fields s.args.z.now s.args.za.now s.requires.0 s.requires.1.0 s.args.w s.requires.1.1
-    (inl (into-v m)) _ _ r.write-v.ensures
+    (v_into_z s.args.fields (into_v m)) _ _ r.write-v.ensures
 
 same-length-2 : tie.Need-same-length-2
 same-length-2 c = search rules
@@ -93,10 +88,10 @@ same-length-2 c = search rules
 returns-2 : tie.Need-returns-2
 returns-2 c =
     let r = c.before.before in
-    let m = r.before.before in
-    let s = m.before.before.before in
+    let t = r.before.before in
+    let s = t.before.before.before.before in
     z-done s.args.settings s.args.fields s.args.z.now s.args.za.now s.requires.0 s.requires.1.0 s.args.w s.requires.1.1
-    (inr (indexed m)) _ _ (none_above (sources s) (whole-register s.args.fields s.args.w (indexed m)) r.step-indexed.ensures)
+    (inr (inr t.enum_told.given.1)) _ _ (none_above (sources s) (whole-register s.args.fields s.args.w t.enum_told.given.1) r.step-saturating.ensures)
 
 same-length-3 : tie.Need-same-length-3
 same-length-3 c = search rules
@@ -116,7 +111,8 @@ step-files-spec =
     tie.close
     (tie.spec
     write-v-requires
-    step-indexed-requires
+    enum_told
+    step-saturating-requires
     per-source-requires
     step-array-requires
     same_length

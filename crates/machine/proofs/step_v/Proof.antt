@@ -15,12 +15,11 @@ abbrev S : tie.After-struct-known5 → tie.Start
 S m = m.before.before.before.before.before.before
 
 -- the second arm is B's
-not_first : {tag : ℕ} → (tag ≡ 1) ⊎ ((tag ≡ 2) ⊎ ((tag ≡ 3) ⊎ ((tag ≡ 4) ⊎ (tag ≡ 5)))) → tag ≡ 0 → ⊥
+not_first : {tag : ℕ} → (tag ≡ 1) ⊎ ((tag ≡ 2) ⊎ ((tag ≡ 3) ⊎ (tag ≡ 4))) → tag ≡ 0 → ⊥
 not_first (inl a) e = omega arith
 not_first (inr (inl a)) e = omega arith
 not_first (inr (inr (inl a))) e = omega arith
-not_first (inr (inr (inr (inl a)))) e = omega arith
-not_first (inr (inr (inr (inr a)))) e = omega arith
+not_first (inr (inr (inr a))) e = omega arith
 
 is_b : (c : tie.At-match-keys2) → (S c.before).args.fields.family ≡ Vector
 is_b c =

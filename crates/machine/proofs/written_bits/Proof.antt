@@ -37,9 +37,6 @@ mul-result-3 c = omega (arith, small c.before.before)
 mul-result-4 : tie.Need-overflow-mul-result-4
 mul-result-4 c = omega (arith, small c.before.before)
 
-enum-told-6 : tie.Need-enum-told-6
-enum-told-6 c = search rules
-
 returns : tie.Need-returns
 returns c = search rules
 
@@ -55,9 +52,6 @@ returns-4 c = rw c.enum-told4.given.1
 returns-5 : tie.Need-returns-5
 returns-5 c = rw c.enum-told5.given.1
 
-returns-6 : tie.Need-returns-6
-returns-6 c = search rules
-
 pub written-bits-spec : {M : Type 1} → statement M
 written-bits-spec =
     tie.close
@@ -71,10 +65,8 @@ written-bits-spec =
     enum-told-5
     mul-result-3
     mul-result-4
-    enum-told-6
     returns
     returns-2
     returns-3
     returns-4
-    returns-5
-    returns-6)
+    returns-5)

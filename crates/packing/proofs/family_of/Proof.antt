@@ -16,10 +16,7 @@ returns-4 : tie.Need-returns-4
 returns-4 c = rw c.match.keys4
 
 returns-5 : tie.Need-returns-5
-returns-5 c = rw c.match.keys5
-
-returns-6 : tie.Need-returns-6
-returns-6 c = search by-numbers
+returns-5 c = search by-numbers
 
 pub family-of-spec : {M : Type 1} → statement M
-family-of-spec = tie.close (tie.spec returns returns-2 returns-3 returns-4 returns-5 returns-6)
+family-of-spec = tie.close (tie.spec returns returns-2 returns-3 returns-4 returns-5)

@@ -1,47 +1,30 @@
 -- `recipes::build` meets its contract. Assumes nothing.
-use mathlib.Core.Path.{◌≡◌, refl, sym, ap, ◌∙◌, subst}
-use mathlib.Core.Bool.{Bool}
+use mathlib.Core.Path.{◌≡◌, refl, sym, ◌∙◌}
+use mathlib.Core.Bool.{true, false}
 use Prim.Native.Nat.{◌+◌, ◌-◌, ◌*◌, ◌/◌, ◌<◌, ◌≤◌}
 use native.Mathlib.Nat.{div-le_self}
 use native.Mathlib.Omega.{arith}
 use lib.ListN.{length, drop}
 use borrow.Author.Rules.{rules}
 use Rattle.elements.proofs.Vectors.{put_each, put_each_turn, put_each_end}
+use Rattle.words.specs.declared.Family.TheVariants.{Saturating}
 use Rattle.recipes.specs.Recipe.{by_segment, recipe_of}
-use Rattle.lanes.specs.Recipe.{Recipe}
-use Rattle.lanes.specs.Element.{new_element, new_bytes, RegistersThere}
+use Rattle.lanes.specs.Element.{new_element}
 use Rattle.lanes.proofs.Built.{whole-elements, element-ends, there}
-use Rattle.recipes.proofs.Indexed.{recipe_is, some_bytes, count_is, segment_bytes}
+use Rattle.recipes.proofs.Saturating.{some_bytes, count_is, c_bytes}
 use Rattle.recipes.proofs.build.Statement.{statement}
 use Rattle.recipes.proofs.build.Tie as tie
 
 abbrev invariant-loop : tie.invariant-loop
-invariant-loop z at n m out₀ saturating unsigned subtract part index lane count e₀ out e =
-    (e ≤ count) × (out ≡ put_each (new_element (by_segment saturating unsigned subtract lane part index) (drop at z) (drop n z) (drop m z)) (2 * lane / 8) 0 e out₀) × (length out ≡ length out₀)
+invariant-loop z at n m out₀ part index subtract lane count e₀ out e =
+    (e ≤ count) × (out ≡ put_each (new_element (by_segment true false subtract lane part index) (drop at z) (drop n z) (drop m z)) (2 * lane / 8) 0 e out₀) × (length out ≡ length out₀)
 
 abbrev decreases-loop : tie.decreases-loop
-decreases-loop z at n m out₀ saturating unsigned subtract part index lane count e₀ out e = count - e
+decreases-loop z at n m out₀ part index subtract lane count e₀ out e = count - e
 
--- from the loop back to the call that says whether products saturate, and to the function's entry
-abbrev C : tie.At-loop invariant-loop decreases-loop → tie.After-saturates invariant-loop decreases-loop
-C c = c.before.before.before.before
-
+-- from the loop back to the function's entry
 abbrev S : tie.At-loop invariant-loop decreases-loop → tie.Start invariant-loop decreases-loop
-S c = (C c).before.before.before
-
--- the recipe as the code has it
-abbrev R : tie.At-loop invariant-loop decreases-loop → Recipe
-R c =
-    let f = (S c).args.fields in
-    by_segment (C c).saturates.result f.unsigned f.subtract f.lane f.part f.index
-
--- it is the word's
-recipe-here : (c : tie.At-loop invariant-loop decreases-loop) → R c ≡ recipe_of (S c).args.fields.family (S c).args.fields 0
-recipe-here c = recipe_is (S c).args.fields (S c).requires.0.0 (C c).saturates.result (C c).saturates.ensures
-
-registers : (c : tie.At-loop invariant-loop decreases-loop) → RegistersThere (R c) (length (S c).args.out.now) (S c).args.z.now (S c).args.at (S c).args.n (S c).args.m
-registers c =
-    subst (λ (r : Recipe). RegistersThere r (length (S c).args.out.now) (S c).args.z.now (S c).args.at (S c).args.n (S c).args.m) (sym (recipe-here c)) (S c).requires.1
+S c = c.before.before.before.before.before.before
 
 -- the element of a turn is one of the register's, of which it takes a whole number
 this : (c : tie.In-loop invariant-loop decreases-loop) → c.before.loop.e < 8 * length (S c.before).args.out.now / (2 * (S c.before).args.fields.lane)
@@ -51,11 +34,8 @@ ends : (c : tie.In-loop invariant-loop decreases-loop)
     → c.before.loop.e * (2 * (S c.before).args.fields.lane / 8) + 2 * (S c.before).args.fields.lane / 8 ≤ length (S c.before).args.out.now
 ends c =
     let s = S c.before in
-    let i = (registers c.before).inside in
+    let i = s.pre.1.inside in
     element-ends (2 * s.args.fields.lane) i.widths.1.0 (length s.args.out.now) i.whole c.before.loop.e (this c)
-
-saturates-requires : tie.Need-saturates-requires invariant-loop decreases-loop
-saturates-requires c κs = search rules
 
 cast-part : tie.Need-overflow-cast-part invariant-loop decreases-loop
 cast-part c = search rules
@@ -67,7 +47,7 @@ cast-lane : tie.Need-overflow-cast-lane invariant-loop decreases-loop
 cast-lane c = search rules
 
 div-count : tie.Need-nonzero-div-count invariant-loop decreases-loop
-div-count c = some_bytes c.before.before.before.before.before.before.requires.0.1
+div-count c = some_bytes c.before.before.before.before.before.requires.0.1
 
 loop-holds : tie.Need-loop-init invariant-loop decreases-loop
 unfolding put_each
@@ -76,7 +56,7 @@ loop-holds c = (omega arith, refl, refl)
 new-element-requires : tie.Need-new-element-requires invariant-loop decreases-loop
 new-element-requires c κs =
     let s = S c.before in
-    (s.pre.0.1, there (registers c.before) c.before.loop.e (this c))
+    (s.pre.0.1, there s.pre.1 c.before.loop.e (this c))
 
 put-requires : tie.Need-put-requires invariant-loop decreases-loop
 put-requires c κs =
@@ -97,9 +77,10 @@ loop-again c =
     let v = p.before.before in
     let t = v.before in
     let l = t.before.loop in
-    let a = (S t.before).args in (
+    let a = (S t.before).args in
+    let f = a.fields in (
       omega arith,
-      put_each_turn (new_element (R t.before) (drop a.at a.z.now) (drop a.n a.z.now) (drop a.m a.z.now)) (2 * a.fields.lane / 8) 0 l.e _ _ a.out.now l.out _
+      put_each_turn (new_element (recipe_of Saturating f 0) (drop a.at a.z.now) (drop a.n a.z.now) (drop a.m a.z.now)) (2 * f.lane / 8) 0 l.e _ _ a.out.now l.out _
           (omega arith) v.new_element.ensures l.invariant.1 p.put.ensures,
       p.put.auto.1.0 ∙ l.invariant.2,
     )
@@ -113,12 +94,11 @@ returns c =
     let s = S c.before in
     let a = s.args in
     let f = a.fields in
-    let i = (registers c.before).inside in
+    let i = s.pre.1.inside in
     let n = length a.out.now in
     let long : n ≡ n / (f.lane / 4) * (2 * f.lane / 8) = sym (rw (count_is s.pre.0.1 n) (whole-elements (2 * f.lane) i.widths.1.0 n i.whole)) in
     put_each_end _ (2 * f.lane / 8) l.e (n / (f.lane / 4)) a.out.now l.out l.invariant.0 c.loop-test.false long l.invariant.1
-    ∙ segment_bytes _ f.unsigned f.subtract f.lane f.part f.index n (drop a.at a.z.now) (drop a.n a.z.now) (drop a.m a.z.now) s.pre.0.1
-    ∙ ap (λ (r : Recipe). new_bytes r n (drop a.at a.z.now) (drop a.n a.z.now) (drop a.m a.z.now)) (recipe-here c.before)
+    ∙ c_bytes f n (drop a.at a.z.now) (drop a.n a.z.now) (drop a.m a.z.now) s.pre.0.0 s.pre.0.1
 
 pub build-spec : {M : Type 1} → statement M
 build-spec =
@@ -126,7 +106,6 @@ build-spec =
     (tie.spec
     invariant-loop
     decreases-loop
-    saturates-requires
     cast-part
     cast-index
     cast-lane

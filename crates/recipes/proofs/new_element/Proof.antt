@@ -1,11 +1,13 @@
 -- `recipes::new_element` meets its contract, lane by lane. Assumes nothing.
 use Prim.Native.Nat.{ℕ}
 use mathlib.Core.Path.{◌≡◌, refl}
+use mathlib.Core.Bool.{true, false}
 use mathlib.Core.Logic.{inl, inr}
 use native.Mathlib.Omega.{arith}
 use borrow.Author.Rules.{rules}
 use Rattle.elements.proofs.Lanes.{wider-lane}
 use Rattle.lanes.proofs.Widths.{doubled}
+use Rattle.lanes.specs.Lane.{step}
 use Rattle.recipes.specs.Recipe.{by_segment}
 use Rattle.lanes.specs.Element.{ElementThere}
 use Rattle.lanes.proofs.Built.{new_element-at}
@@ -15,7 +17,7 @@ use Rattle.recipes.proofs.new_element.Tie as tie
 -- what there is in lanes of so many bits
 abbrev There : ℕ → tie.Start → Type 0
 There lane s =
-    ElementThere (by_segment s.args.saturating s.args.unsigned s.args.subtract lane s.args.part s.args.index) s.args.z.now s.args.at s.args.n s.args.m s.args.e
+    ElementThere (by_segment true false s.args.subtract lane s.args.part s.args.index) s.args.z.now s.args.at s.args.n s.args.m s.args.e
 
 there-16 : (c : tie.Then1) → There 16 c.before.before
 there-16 c = rw c.if1.true at c.before.before.requires.1
@@ -66,9 +68,10 @@ element-requires : tie.Need-element-requires
 element-requires c κs = (doubled 16 (inr (inl refl)), (search rules, ((there-16 c.before).first, (there-16 c.before).second)))
 
 returns : tie.Need-returns
+unfolding step
 returns c =
     let a = c.before.before.before.before.args in
-    rw (c.before.before.if1.true, new_element-at (by_segment a.saturating a.unsigned a.subtract 16 a.part a.index) a.z.now a.at a.z.now a.n a.m a.e, ← c.before.lane-at.ensures.0)
+    rw (c.before.before.if1.true, new_element-at (by_segment true false a.subtract 16 a.part a.index) a.z.now a.at a.z.now a.n a.m a.e, ← c.before.lane-at.ensures.0)
     c.element.ensures
 
 sub-s-2 : tie.Need-overflow-sub-s-2
@@ -111,9 +114,10 @@ element-requires-2 : tie.Need-element-requires-2
 element-requires-2 c κs = (doubled 32 (inr (inr refl)), (search rules, ((there-32 c.before).first, (there-32 c.before).second)))
 
 returns-2 : tie.Need-returns-2
+unfolding step
 returns-2 c =
     let a = c.before.before.before.before.args in
-    rw (lane-32 c.before.before, new_element-at (by_segment a.saturating a.unsigned a.subtract 32 a.part a.index) a.z.now a.at a.z.now a.n a.m a.e, ← c.before.read8.ensures.0)
+    rw (lane-32 c.before.before, new_element-at (by_segment true false a.subtract 32 a.part a.index) a.z.now a.at a.z.now a.n a.m a.e, ← c.before.read8.ensures.0)
     c.element2.ensures
 
 pub new-element-spec : {M : Type 1} → statement M

@@ -45,12 +45,6 @@ either-requires-6 c κs = search rules
 enum-told-5 : tie.Need-enum-told-5
 enum-told-5 c = search rules
 
-enum-told-6 : tie.Need-enum-told-6
-enum-told-6 c = search rules
-
-either-requires-7 : tie.Need-either-requires-7
-either-requires-7 c κs = search rules
-
 returns : tie.Need-returns
 unfolding row_for
 returns c = rw c.before.enum_told.given.1 (row_of_a c.before.before.before.before.before.args.f.lane c.before.before.before.before.before.args.f.part _ _ c.either2.ensures.0 c.before.before.before.either.ensures.0)
@@ -71,10 +65,6 @@ returns-5 : tie.Need-returns-5
 unfolding row_for
 returns-5 c = rw c.enum-told5.given.1 refl
 
-returns-6 : tie.Need-returns-6
-unfolding row_for
-returns-6 c = rw c.before.enum-told6.given.1 c.either7.ensures.0
-
 pub row-of-spec : {M : Type 1} → statement M
 row-of-spec =
     tie.close
@@ -92,11 +82,8 @@ row-of-spec =
     enum-told-4
     either-requires-6
     enum-told-5
-    enum-told-6
-    either-requires-7
     returns
     returns-2
     returns-3
     returns-4
-    returns-5
-    returns-6)
+    returns-5)

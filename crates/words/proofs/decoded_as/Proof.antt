@@ -52,41 +52,29 @@ fields-c32-requires c κs = search rules
 enum-told-6 : tie.Need-enum-told-6
 enum-told-6 c = search rules
 
-fields-f16-requires : tie.Need-fields-f16-requires
-fields-f16-requires c κs = search rules
+fields-d2-requires : tie.Need-fields-d2-requires
+fields-d2-requires c κs = search rules
 
 enum-told-7 : tie.Need-enum-told-7
 enum-told-7 c = search rules
 
-fields-f32-requires : tie.Need-fields-f32-requires
-fields-f32-requires c κs = search rules
+fields-d4-requires : tie.Need-fields-d4-requires
+fields-d4-requires c κs = search rules
 
 enum-told-8 : tie.Need-enum-told-8
 enum-told-8 c = search rules
 
-fields-d2-requires : tie.Need-fields-d2-requires
-fields-d2-requires c κs = search rules
+fields-e2-requires : tie.Need-fields-e2-requires
+fields-e2-requires c κs = search rules
 
 enum-told-9 : tie.Need-enum-told-9
 enum-told-9 c = search rules
 
-fields-d4-requires : tie.Need-fields-d4-requires
-fields-d4-requires c κs = search rules
-
-enum-told-10 : tie.Need-enum-told-10
-enum-told-10 c = search rules
-
-fields-e2-requires : tie.Need-fields-e2-requires
-fields-e2-requires c κs = search rules
-
-enum-told-11 : tie.Need-enum-told-11
-enum-told-11 c = search rules
-
 fields-e4-requires : tie.Need-fields-e4-requires
 fields-e4-requires c κs = search rules
 
-enum-told-12 : tie.Need-enum-told-12
-enum-told-12 c = search rules
+enum-told-10 : tie.Need-enum-told-10
+enum-told-10 c = search rules
 
 returns : tie.Need-returns
 unfolding says_as
@@ -112,31 +100,23 @@ returns-5 c = rw c.before.enum-told5.given.1 (ap accepted c.fields-c32.ensures)
 
 returns-6 : tie.Need-returns-6
 unfolding says_as
-returns-6 c = rw c.before.enum-told6.given.1 (ap accepted c.fields-f16.ensures)
+returns-6 c = rw c.before.enum-told6.given.1 (ap accepted c.fields-d2.ensures)
 
 returns-7 : tie.Need-returns-7
 unfolding says_as
-returns-7 c = rw c.before.enum-told7.given.1 (ap accepted c.fields-f32.ensures)
+returns-7 c = rw c.before.enum-told7.given.1 (ap accepted c.fields-d4.ensures)
 
 returns-8 : tie.Need-returns-8
 unfolding says_as
-returns-8 c = rw c.before.enum-told8.given.1 (ap accepted c.fields-d2.ensures)
+returns-8 c = rw c.before.enum-told8.given.1 (ap accepted c.fields-e2.ensures)
 
 returns-9 : tie.Need-returns-9
 unfolding says_as
-returns-9 c = rw c.before.enum-told9.given.1 (ap accepted c.fields-d4.ensures)
+returns-9 c = rw c.before.enum-told9.given.1 (ap accepted c.fields-e4.ensures)
 
 returns-10 : tie.Need-returns-10
 unfolding says_as
-returns-10 c = rw c.before.enum-told10.given.1 (ap accepted c.fields-e2.ensures)
-
-returns-11 : tie.Need-returns-11
-unfolding says_as
-returns-11 c = rw c.before.enum-told11.given.1 (ap accepted c.fields-e4.ensures)
-
-returns-12 : tie.Need-returns-12
-unfolding says_as
-returns-12 c = rw c.enum-told12.given.1
+returns-10 c = rw c.enum-told10.given.1
 
 pub decoded-as-spec : {M : Type 1} → statement M
 decoded-as-spec =
@@ -154,18 +134,14 @@ decoded-as-spec =
     enum-told-5
     fields-c32-requires
     enum-told-6
-    fields-f16-requires
-    enum-told-7
-    fields-f32-requires
-    enum-told-8
     fields-d2-requires
-    enum-told-9
+    enum-told-7
     fields-d4-requires
-    enum-told-10
+    enum-told-8
     fields-e2-requires
-    enum-told-11
+    enum-told-9
     fields-e4-requires
-    enum-told-12
+    enum-told-10
     returns
     returns-2
     returns-3
@@ -175,6 +151,4 @@ decoded-as-spec =
     returns-7
     returns-8
     returns-9
-    returns-10
-    returns-11
-    returns-12)
+    returns-10)

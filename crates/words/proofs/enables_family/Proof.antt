@@ -39,15 +39,6 @@ enum-told-5 c = search rules
 contains-requires-7 : tie.Need-contains-requires-7
 contains-requires-7 c κs = search rules
 
-enum-told-6 : tie.Need-enum-told-6
-enum-told-6 c = search rules
-
-contains-requires-8 : tie.Need-contains-requires-8
-contains-requires-8 c κs = search rules
-
-contains-requires-9 : tie.Need-contains-requires-9
-contains-requires-9 c κs = search rules
-
 returns : tie.Need-returns
 returns c = rw c.before.enum_told.given.1 c.contains.ensures
 
@@ -62,9 +53,6 @@ returns-4 c = rw (c.before.before.enum-told4.given.1, c.before.contains5.ensures
 
 returns-5 : tie.Need-returns-5
 returns-5 c = rw c.before.enum-told5.given.1 c.contains7.ensures
-
-returns-6 : tie.Need-returns-6
-returns-6 c = rw (c.before.before.enum-told6.given.1, c.before.contains8.ensures, c.contains9.ensures)
 
 pub enables-family-spec : {M : Type 1} → statement M
 enables-family-spec =
@@ -82,12 +70,8 @@ enables-family-spec =
     contains-requires-6
     enum-told-5
     contains-requires-7
-    enum-told-6
-    contains-requires-8
-    contains-requires-9
     returns
     returns-2
     returns-3
     returns-4
-    returns-5
-    returns-6)
+    returns-5)

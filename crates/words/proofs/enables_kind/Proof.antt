@@ -10,7 +10,7 @@ use Rattle.words.proofs.enables_kind.Statement.{statement}
 use Rattle.words.proofs.enables_kind.Tie as tie
 
 -- the last arm is not that of `Nothing`
-early : {tag : ℕ} → (tag ≡ 0) ⊎ ((tag ≡ 1) ⊎ ((tag ≡ 2) ⊎ ((tag ≡ 3) ⊎ ((tag ≡ 4) ⊎ ((tag ≡ 5) ⊎ ((tag ≡ 6) ⊎ ((tag ≡ 7) ⊎ ((tag ≡ 8) ⊎ ((tag ≡ 9) ⊎ (tag ≡ 10)))))))))) → tag ≡ 11 → ⊥
+early : {tag : ℕ} → (tag ≡ 0) ⊎ ((tag ≡ 1) ⊎ ((tag ≡ 2) ⊎ ((tag ≡ 3) ⊎ ((tag ≡ 4) ⊎ ((tag ≡ 5) ⊎ ((tag ≡ 6) ⊎ ((tag ≡ 7) ⊎ (tag ≡ 8)))))))) → tag ≡ 9 → ⊥
 early (inl a) e = omega arith
 early (inr (inl a)) e = omega arith
 early (inr (inr (inl a))) e = omega arith
@@ -19,9 +19,7 @@ early (inr (inr (inr (inr (inl a))))) e = omega arith
 early (inr (inr (inr (inr (inr (inl a)))))) e = omega arith
 early (inr (inr (inr (inr (inr (inr (inl a))))))) e = omega arith
 early (inr (inr (inr (inr (inr (inr (inr (inl a)))))))) e = omega arith
-early (inr (inr (inr (inr (inr (inr (inr (inr (inl a))))))))) e = omega arith
-early (inr (inr (inr (inr (inr (inr (inr (inr (inr (inl a)))))))))) e = omega arith
-early (inr (inr (inr (inr (inr (inr (inr (inr (inr (inr a)))))))))) e = omega arith
+early (inr (inr (inr (inr (inr (inr (inr (inr a)))))))) e = omega arith
 
 enum_told : tie.Need-enum-told
 enum_told c = search rules

@@ -16,20 +16,18 @@ use Rattle.words.proofs.ByKind.{size_of_b, says-zeros}
 use Rattle.words.proofs.fields_of.Statement.{statement}
 use Rattle.words.proofs.fields_of.Tie as tie
 
-late : {tag : ℕ} → (tag ≡ 10) ⊎ (tag ≡ 11) → 9 < tag
+late : {tag : ℕ} → (tag ≡ 8) ⊎ (tag ≡ 9) → 7 < tag
 late (inl a) = omega arith
 late (inr a) = omega arith
 
 -- the last arm is that of E with four registers: the other kinds have their own, and `Nothing` says nothing
-last_arm : (w : ℕ) (k : Kind) → describe w ≡ As (fields_as k w) → (tag_of the_type k ≡ 10) ⊎ (tag_of the_type k ≡ 11) → fields_e 4 (value row_e4 w) ≡ fields_as k w
+last_arm : (w : ℕ) (k : Kind) → describe w ≡ As (fields_as k w) → (tag_of the_type k ≡ 8) ⊎ (tag_of the_type k ≡ 9) → fields_e 4 (value row_e4 w) ≡ fields_as k w
 unfolding fields_as
 last_arm w kind.ByElement16 e t = let l = late t in absurd (omega arith)
 last_arm w kind.ByElement32 e t = let l = late t in absurd (omega arith)
 last_arm w kind.Vector e t = let l = late t in absurd (omega arith)
 last_arm w kind.Saturating16 e t = let l = late t in absurd (omega arith)
 last_arm w kind.Saturating32 e t = let l = late t in absurd (omega arith)
-last_arm w kind.ByIndex16 e t = let l = late t in absurd (omega arith)
-last_arm w kind.ByIndex32 e t = let l = late t in absurd (omega arith)
 last_arm w kind.LongLong2 e t = let l = late t in absurd (omega arith)
 last_arm w kind.LongLong4 e t = let l = late t in absurd (omega arith)
 last_arm w kind.Long2 e t = let l = late t in absurd (omega arith)
@@ -73,29 +71,17 @@ fields-c32-requires c κs = search rules
 enum-told-6 : tie.Need-enum-told-6
 enum-told-6 c = search rules
 
-fields-f16-requires : tie.Need-fields-f16-requires
-fields-f16-requires c κs = search rules
+fields-d2-requires : tie.Need-fields-d2-requires
+fields-d2-requires c κs = search rules
 
 enum-told-7 : tie.Need-enum-told-7
 enum-told-7 c = search rules
 
-fields-f32-requires : tie.Need-fields-f32-requires
-fields-f32-requires c κs = search rules
-
-enum-told-8 : tie.Need-enum-told-8
-enum-told-8 c = search rules
-
-fields-d2-requires : tie.Need-fields-d2-requires
-fields-d2-requires c κs = search rules
-
-enum-told-9 : tie.Need-enum-told-9
-enum-told-9 c = search rules
-
 fields-d4-requires : tie.Need-fields-d4-requires
 fields-d4-requires c κs = search rules
 
-enum-told-10 : tie.Need-enum-told-10
-enum-told-10 c = search rules
+enum-told-8 : tie.Need-enum-told-8
+enum-told-8 c = search rules
 
 fields-e2-requires : tie.Need-fields-e2-requires
 fields-e2-requires c κs = search rules
@@ -126,26 +112,18 @@ returns-5 c = rw c.before.enum-told5.given.1 c.fields-c32.ensures
 
 returns-6 : tie.Need-returns-6
 unfolding fields_as
-returns-6 c = rw c.before.enum-told6.given.1 c.fields-f16.ensures
+returns-6 c = rw c.before.enum-told6.given.1 c.fields-d2.ensures
 
 returns-7 : tie.Need-returns-7
 unfolding fields_as
-returns-7 c = rw c.before.enum-told7.given.1 c.fields-f32.ensures
+returns-7 c = rw c.before.enum-told7.given.1 c.fields-d4.ensures
 
 returns-8 : tie.Need-returns-8
 unfolding fields_as
-returns-8 c = rw c.before.enum-told8.given.1 c.fields-d2.ensures
+returns-8 c = rw c.before.enum-told8.given.1 c.fields-e2.ensures
 
 returns-9 : tie.Need-returns-9
-unfolding fields_as
-returns-9 c = rw c.before.enum-told9.given.1 c.fields-d4.ensures
-
-returns-10 : tie.Need-returns-10
-unfolding fields_as
-returns-10 c = rw c.before.enum-told10.given.1 c.fields-e2.ensures
-
-returns-11 : tie.Need-returns-11
-returns-11 c = c.fields-e4.ensures ∙ last_arm c.before.before.args.w c.before.before.args.kind c.before.before.requires c.before.match.keys11
+returns-9 c = c.fields-e4.ensures ∙ last_arm c.before.before.args.w c.before.before.args.kind c.before.before.requires c.before.match.keys9
 
 pub fields-of-spec : {M : Type 1} → statement M
 fields-of-spec =
@@ -163,14 +141,10 @@ fields-of-spec =
     enum-told-5
     fields-c32-requires
     enum-told-6
-    fields-f16-requires
-    enum-told-7
-    fields-f32-requires
-    enum-told-8
     fields-d2-requires
-    enum-told-9
+    enum-told-7
     fields-d4-requires
-    enum-told-10
+    enum-told-8
     fields-e2-requires
     fields-e4-requires
     returns
@@ -181,6 +155,4 @@ fields-of-spec =
     returns-6
     returns-7
     returns-8
-    returns-9
-    returns-10
-    returns-11)
+    returns-9)

@@ -2,9 +2,9 @@
 use mathlib.Core.Path.{◌≡◌, ◌∙◌}
 use mathlib.Core.List.{◌++◌}
 use borrow.Author.Rules.{rules}
-use Rattle.words.specs.Says.{table_indexed, table_za, says_first, describe}
+use Rattle.words.specs.Says.{table_c, table_za, says_first, describe}
 use Rattle.words.specs.Kinds.{says_as}
-use Rattle.words.proofs.ByKind.{only_indexed, only-za, no_row}
+use Rattle.words.proofs.ByKind.{only_c, only-za, no_row}
 use Rattle.words.proofs.kind_of.Statement.{statement}
 use Rattle.words.proofs.kind_of.Tie as tie
 
@@ -36,21 +36,21 @@ returns-2 c =
     )
     c.kind-b.ensures
 
-kind-indexed-requires : tie.Need-kind-indexed-requires
-kind-indexed-requires c κs = search rules
+kind-c-requires : tie.Need-kind-c-requires
+kind-c-requires c κs = search rules
 
 kind-za-requires : tie.Need-kind-za-requires
 kind-za-requires c κs = search rules
 
 -- where neither the row of A nor that of B matches, the rows after them say it
-after-b : (c : tie.Else2) → describe c.before.before.before.before.args.w ≡ says_first (table_indexed ++ table_za) c.before.before.before.before.args.w
+after-b : (c : tie.Else2) → describe c.before.before.before.before.args.w ≡ says_first (table_c ++ table_za) c.before.before.before.before.args.w
 unfolding describe
 after-b c = rw (← c.before.before.before.is-a.ensures, c.before.before.if1.false, ← c.before.is_b.ensures, c.if2.false)
 
 returns-3 : tie.Need-returns-3
 returns-3 c =
     let e = c.before.before in
-    after-b e ∙ only_indexed _ e.before.before.before.before.ranges.w.fits c.before.match.keys1 ∙ c.kind-indexed.ensures
+    after-b e ∙ only_c _ e.before.before.before.before.ranges.w.fits c.before.match.keys1 ∙ c.kind-c.ensures
 
 returns-4 : tie.Need-returns-4
 returns-4 c =
@@ -73,7 +73,7 @@ kind-of-spec =
     is-b-requires
     kind-b-requires
     returns-2
-    kind-indexed-requires
+    kind-c-requires
     kind-za-requires
     returns-3
     returns-4

@@ -18,9 +18,6 @@ enum-told-4 c = search rules
 enum-told-5 : tie.Need-enum-told-5
 enum-told-5 c = search rules
 
-enum-told-6 : tie.Need-enum-told-6
-enum-told-6 c = search rules
-
 returns : tie.Need-returns
 returns c = rw c.enum_told.given.1
 
@@ -36,9 +33,6 @@ returns-4 c = rw c.enum-told4.given.1
 returns-5 : tie.Need-returns-5
 returns-5 c = rw c.enum-told5.given.1
 
-returns-6 : tie.Need-returns-6
-returns-6 c = rw c.enum-told6.given.1
-
 pub partner-in-spec : {M : Type 1} → statement M
 partner-in-spec =
     tie.close
@@ -48,10 +42,8 @@ partner-in-spec =
     enum-told-3
     enum-told-4
     enum-told-5
-    enum-told-6
     returns
     returns-2
     returns-3
     returns-4
-    returns-5
-    returns-6)
+    returns-5)

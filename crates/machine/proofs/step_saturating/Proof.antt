@@ -1,11 +1,11 @@
--- `machine::step_indexed` meets its contract. Assumes nothing.
+-- `machine::step_saturating` meets its contract. Assumes nothing.
 use mathlib.Core.Path.{sym}
 use native.Mathlib.Omega.{arith}
 use lib.Seq.{length-take-le}
 use borrow.Author.Rules.{rules}
 use Rattle.machine.proofs.Renewal.{register_small, source_lt, step-places, step_room, step_renewal}
-use Rattle.machine.proofs.step_indexed.Statement.{statement}
-use Rattle.machine.proofs.step_indexed.Tie as tie
+use Rattle.machine.proofs.step_saturating.Statement.{statement}
+use Rattle.machine.proofs.step_saturating.Tie as tie
 
 -- from the built register back to the function's entry
 abbrev S : tie.After-build → tie.Start
@@ -66,8 +66,8 @@ returns c =
     let s = S b in
     step_renewal s.pre.0 s.pre.1.0 _ (length-take-le _ _ s.pre.1.1) _ b.build.kept.1.1.1.1.1.0 _ _ b.build.ensures v.replace.ensures
 
-pub step-indexed-spec : {M : Type 1} → statement M
-step-indexed-spec =
+pub step-saturating-spec : {M : Type 1} → statement M
+step-saturating-spec =
     tie.close
     (tie.spec
     array-borrow-prefix-room
