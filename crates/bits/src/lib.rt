@@ -1,10 +1,12 @@
+#![tactic(auto)]
+
 ghost use Rattle.std.specs.Prelude.{◌≡◌, ◌+◌, ◌%◌, ◌≤◌, length};
 ghost use Rattle.bits.specs.Bits.{over_bits, rose, fell};
 ghost use Rattle.bits.specs.Replace.{Replaced, Cleared};
 
 // The bits that changed: those that rose, from 0 to 1, and those that fell. They have 64 bits, as the words that are counted, so that the compiler keeps
 // the two sums side by side.
-#[derive(Drop)]
+#[derive(Clone, Copy)]
 pub struct Toggles {
     pub rises: u64,
     pub falls: u64,

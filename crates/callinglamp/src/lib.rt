@@ -1,4 +1,6 @@
 // The public calls. Each answers for every input, and its promise, in specs/Promises.antt, fixes the answer and all that was lent to it.
+#![tactic(auto)]
+
 ghost use Rattle.callinglamp.specs.Promises.{DecodePromise, EncodePromise, PartnerPromise, ExecutePromise, PercentPromise, RunPromise, PrintPromise, ReadPromise};
 
 pub use encoding::Encoded;

@@ -1,4 +1,6 @@
 // Vectors stepped eight bytes at a time, with the bits that rise and fall counted: the V register of A and B, and a ZA vector of D and E.
+#![tactic(auto)]
+
 ghost use Rattle.std.specs.Prelude.{◌≡◌, ◌⊎◌, ◌+◌, ◌*◌, ◌/◌, ◌%◌, ◌^◌, ◌<◌, ◌≤◌, length};
 ghost use Rattle.elements.specs.Elements.{element_at};
 ghost use Rattle.elements.specs.Lanes.{IsLane};
@@ -10,7 +12,7 @@ ghost use Rattle.chunks.specs.Chunk.{even_bytes, Reach, chunk, Apart, OfArray, I
 use bits::Toggles;
 
 // The 16 new bytes of a V register, in two words.
-#[derive(Drop)]
+#[derive(Clone, Copy)]
 struct Pair {
     low: u64,
     high: u64,

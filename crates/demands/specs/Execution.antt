@@ -11,7 +11,7 @@ use Rattle.elements.specs.Files.{vector_at}
 use Rattle.lanes.specs.Lane.{lane_step, sat_step}
 use Rattle.lanes.specs.Element.{new_bytes}
 use Rattle.recipes.specs.Recipe.{recipe_of}
-use Rattle.std.specs.int_of.Bits.{differ}
+use Rattle.std.specs.Int.Bits.{differ}
 use Rattle.bits.specs.Bits.{over_bytes, rises, falls, ones_of}
 use Rattle.machine.specs.Modes.{permits}
 use Rattle.machine.specs.Step.{register, stride, selected, first_vector, writes_vector}

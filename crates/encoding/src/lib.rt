@@ -1,3 +1,5 @@
+#![tactic(auto)]
+
 ghost use Rattle.std.specs.Prelude.{◌≡◌, ◌<◌};
 ghost use Rattle.layouts.specs.Layout.{build};
 ghost use Rattle.words.specs.Rows.{row_a, row_b, row_c16, row_c32, row_d2, row_d4, row_e2, row_e4};
@@ -9,7 +11,7 @@ use layouts::*;
 use settings::{Refusal, Settings};
 use words::{Family, Fields};
 
-#[derive(Drop)]
+#[derive(Clone, Copy)]
 pub enum Encoded {
     Word(u32),
     Refused(Refusal),

@@ -1,5 +1,7 @@
 // The C interface: the public calls over numbers and arrays, as include/callinglamp.h declares them. It only unpacks what they take, and
 // packs what they answer.
+#![tactic(auto)]
+
 ghost use Rattle.host.specs.Host.{HostDecode, HostEncode, HostPartner, HostExecute, HostPercent, HostRun, HostPrint, HostRead, HostVersion};
 
 use packing::GivenFields;

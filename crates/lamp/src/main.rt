@@ -1,4 +1,6 @@
 // The list program: reads a list from standard input to its end, runs it, and prints a line for each word.
+#![tactic(auto)]
+
 ghost use Rattle.std.specs.Prelude.{◌≡◌, ◌+◌, ◌*◌, ◌≤◌, ◌<◌, length, take};
 ghost use Rattle.pieces.specs.Pieces.{Wrote};
 ghost use Rattle.runlist.specs.Plan.{most_words};

@@ -1,6 +1,8 @@
+#![tactic(auto)]
+
 ghost use Rattle.std.specs.Prelude.{◌≡◌, ◌+◌, ◌-◌, ◌*◌, ◌%◌, ◌^◌, ◌<◌, ◌≤◌, min, pos, ◌+ℤ◌};
 ghost use Rattle.elements.specs.Lanes.{IsLane};
-ghost use Rattle.lanes.specs.Lane.{s_int, low, product as productPaper, lane_step, clamp, sat_step};
+ghost use Rattle.lanes.specs.Lane.{s_int, low, product as product_paper, lane_step, clamp, sat_step};
 ghost use Rattle.lanes.specs.Signed.{signed_value, signs, limit};
 ghost use Rattle.lanes.specs.Widths.{IsWidth, Widths, raise};
 
@@ -94,7 +96,7 @@ fn raised(lane: usize, h: u64, x: u64) -> u64
 fn product(lane: usize, unsigned: bool, x: u64, y: u64) -> u64
     requires lane { IsLane lane }
     requires x_bound { (x < 2 ^ lane) × (y < 2 ^ lane) }
-    ensures { result ≡ productPaper lane 64 unsigned x y }
+    ensures { result ≡ product_paper lane 64 unsigned x y }
 {
     let h = raise_of(lane, unsigned);
     let a = raised(lane, h, x);
@@ -123,7 +125,7 @@ pub fn lane_step(
 }
 
 // An integer by its sign (true: negative) and magnitude. So a product is one of naturals, and no case of it overflows.
-#[derive(Drop)]
+#[derive(Clone, Copy)]
 struct Signed {
     neg: bool,
     mag: u64,

@@ -3,7 +3,7 @@
 use Rattle.std.specs.Prelude.{ℕ, ◌+◌, ◌-◌, ◌*◌, ◌/◌, ◌%◌, ◌^◌, List, [], ◌∷◌, Bool, true, ◌&&◌, cond, eqb}
 use Prim.Native.Char.{Char, code}
 use Prim.Native.String.{String, [] as end, ◌∷◌ as then}
-use Rattle.std.specs.int_of.Bits.{bit_xor}
+use Rattle.std.specs.Int.Bits.{bit_xor}
 
 -- `bits k x`: k fixed bits, whose number is x. `field k a`: k bits of the field whose letter has the code a
 pub data Segment : Type 0 where

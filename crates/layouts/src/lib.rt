@@ -1,5 +1,7 @@
 // What a layout's row of text says of a word is in specs/, with its laws in proofs/. The code here only names the bits of a word, each by
 // the number that has it alone: `w / BIT_22 % 4` reads bits 23 and 22 of w, and `x * BIT_22` puts x there.
+#![tactic(auto)]
+
 pub const BIT_0: u32 = 1;
 
 pub const BIT_1: u32 = 2;

@@ -1,4 +1,6 @@
 // The lines that the list program prints, written into room that the caller lends.
+#![tactic(auto)]
+
 ghost use Rattle.std.specs.Prelude.{◌≡◌, ◌++◌, ◌+◌, ◌*◌, ◌≤◌, ◌<◌, length, take};
 ghost use Rattle.pieces.specs.Pieces.{text, decimal, hex8, Wrote};
 ghost use Rattle.lines.specs.Lines.{refused_line, counts_after, outcome, line_of, word_lines, ran_lines, ToggledFits};

@@ -1,3 +1,5 @@
+#![tactic(auto)]
+
 ghost use Rattle.std.specs.Prelude.{◌≡◌, ◌⊎◌, true, [], ◌+◌, ◌*◌, ◌/◌, ◌%◌, ◌≤◌, ◌<◌};
 ghost use Rattle.settings.specs.Valid.{valid_settings, vector_bytes, array_bytes};
 ghost use Rattle.elements.specs.Files.{replaced};
@@ -20,7 +22,7 @@ use settings::{Features, Modes, Refusal, Settings};
 use words::{Family, Fields, Kind};
 
 // The bits that a step changed, which rose or fell, and those that it wrote.
-#[derive(Drop)]
+#[derive(Clone, Copy)]
 pub struct Counts {
     pub rises: u32,
     pub falls: u32,
@@ -28,14 +30,14 @@ pub struct Counts {
 }
 
 // A step that was done, or why none was.
-#[derive(Drop)]
+#[derive(Clone, Copy)]
 pub enum Executed {
     Done(Counts),
     Refused(Refusal),
 }
 
 // The four numbers of a word in the report: a refusal's number or 0, and the counts.
-#[derive(Drop)]
+#[derive(Clone, Copy)]
 pub struct Reported {
     pub refusal: u32,
     pub rises: u32,

@@ -1,5 +1,7 @@
 // Reads the numbers of a run list. A list may end, or go wrong, at any byte: every call here answers for every list and
 // every place, and says where the fault is.
+#![tactic(auto)]
+
 ghost use Rattle.std.specs.Prelude.{◌≡◌, length};
 ghost use Rattle.numbers.specs.Numbers.{number_at, numbers_at, row_of, filled};
 
@@ -7,7 +9,7 @@ use settings::Refusal;
 
 // What stands at a place of a list: a number and the place after it, or what is wrong, and the place of the number's
 // first byte.
-#[derive(Drop)]
+#[derive(Clone, Copy)]
 pub enum Read {
     Number { value: u32, next: usize },
     Fault { refusal: Refusal, place: usize },
@@ -61,7 +63,7 @@ pub fn read_number(list: &[u8], at: usize) -> Read
 }
 
 // How a row of numbers ended: the place after the last, or the first fault.
-#[derive(Drop)]
+#[derive(Clone, Copy)]
 pub enum Row {
     Next { next: usize },
     Fault { refusal: Refusal, place: usize },

@@ -1,4 +1,6 @@
 // What C passes and gets, as numbers: an answer is one number of 64 bits, a word's fields are twelve numbers, and counts and totals stand in arrays.
+#![tactic(auto)]
+
 ghost use Rattle.std.specs.Prelude.{◌≡◌, cond};
 ghost use Rattle.settings.specs.Valid.{valid_settings};
 ghost use Rattle.settings.specs.Refused.{refusal_number};
@@ -46,7 +48,7 @@ const SELECT: usize = 10;
 const OFFSET: usize = 11;
 
 // The fields that twelve numbers stand for.
-#[derive(Drop)]
+#[derive(Clone, Copy)]
 pub enum GivenFields {
     Are(Fields),
     Nothing,

@@ -1,5 +1,7 @@
 // Pieces of text, written into room that the caller lends. Each is put at a place and answers the place after it. A number of 64 bits has
 // at most 20 decimal digits.
+#![tactic(auto)]
+
 ghost use Rattle.std.specs.Prelude.{◌≡◌, ◌+◌, ◌≤◌, ◌<◌, length};
 ghost use Rattle.pieces.specs.Pieces.{glyph_of, digits, decimal, Wrote};
 

@@ -1,4 +1,6 @@
 // A reader over the numbers of a run list, which is lent and moves.
+#![tactic(auto)]
+
 ghost use Rattle.std.specs.Prelude.{◌≡◌, ◌<◌, length};
 ghost use Rattle.numbers.specs.Numbers.{number_at, numbers_at, row_of, filled};
 ghost use Rattle.reader.specs.Moves.{place_after, end_of, stored_at};
@@ -6,7 +8,7 @@ ghost use Rattle.reader.specs.Moves.{place_after, end_of, stored_at};
 use numbers::{Read, Row};
 
 // The reader keeps the list and its present place.
-#[derive(Drop)]
+#[derive(Clone, Copy)]
 struct Reader<'a> {
     list: &'a [u8],
     at: usize,

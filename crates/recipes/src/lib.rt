@@ -1,5 +1,7 @@
 // The recipes say of every family which elements go into which, and they are definitions alone. The code here makes C's new register; those of the
 // other families are made eight bytes at a time, by `chunks`.
+#![tactic(auto)]
+
 ghost use Rattle.std.specs.Prelude.{◌≡◌, true, false, ◌+◌, ◌*◌, ◌/◌, ◌^◌, ◌<◌, ◌≤◌, length, drop};
 ghost use Rattle.elements.specs.Elements.{element_at, put_at};
 ghost use Rattle.lanes.specs.Lane.{sat_step};

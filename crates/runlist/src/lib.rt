@@ -1,3 +1,5 @@
+#![tactic(auto)]
+
 ghost use Rattle.std.specs.Prelude.{◌≡◌, ◌+◌, ◌*◌, ◌≤◌, length, take, drop, replicate};
 ghost use Rattle.machine.specs.Execute.{execute_paper};
 ghost use Rattle.machine.specs.Run.{four_of, run_of};
@@ -22,14 +24,14 @@ const FEW_WORDS: usize = 64;
 pub const HEAD: usize = 7;
 
 // What became of a list: how many words ran, and their tally; or why none did, and the place of the fault.
-#[derive(Drop)]
+#[derive(Clone, Copy)]
 pub enum RunAnswer {
     Ran { words: usize, tally: Tally },
     Refused { refusal: Refusal, place: usize },
 }
 
 // What stands before the words of a list: the place of the Z bytes, that of the words, and how many there are.
-#[derive(Drop)]
+#[derive(Clone, Copy)]
 pub enum Front {
     Words {
         at: usize,
@@ -43,7 +45,7 @@ pub enum Front {
 }
 
 // The words of a list.
-#[derive(Drop)]
+#[derive(Clone, Copy)]
 pub enum Words {
     Read,
     Refused { refusal: Refusal, place: usize },

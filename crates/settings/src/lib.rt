@@ -1,10 +1,12 @@
+#![tactic(auto)]
+
 ghost use Rattle.std.specs.Prelude.{◌≡◌, ◌-◌, ◌≤◌, ◌<◌, get_or};
 ghost use Rattle.settings.specs.Sets.{has_features, has_modes, named_numbers};
 ghost use Rattle.settings.specs.Valid.{valid_length, valid_features, valid_modes, valid_settings, vector_bytes, array_bytes};
 ghost use Rattle.settings.specs.Refused.{refusal_number};
 
 // A set of features: the sum of the numbers of those that are there.
-#[derive(Drop)]
+#[derive(Clone, Copy)]
 pub struct Features(pub u32);
 
 impl Features {
@@ -32,7 +34,7 @@ impl Features {
 }
 
 // A set of modes: the sum of the numbers of those that are on.
-#[derive(Drop)]
+#[derive(Clone, Copy)]
 pub struct Modes(pub u32);
 
 impl Modes {
@@ -64,7 +66,7 @@ pub fn named_numbers() -> [u32; 7]
 }
 
 // What holds while words are decoded and executed. `select` has W8 to W11.
-#[derive(Drop)]
+#[derive(Clone, Copy)]
 pub struct Settings {
     pub vl: u32,
     pub features: Features,
@@ -73,7 +75,7 @@ pub struct Settings {
 }
 
 // Why a call gave no answer.
-#[derive(Drop)]
+#[derive(Clone, Copy)]
 pub enum Refusal {
     // 1: VL, features or modes outside the rules.
     BadSettings,

@@ -1,4 +1,6 @@
 // For people: a line of eight hexadecimal digits becomes the text of the word, and a line of text becomes the word.
+#![tactic(auto)]
+
 ghost use Rattle.std.specs.Prelude.{◌≡◌, false, ◌++◌, ◌+◌, ◌≤◌, ◌<◌, length};
 ghost use Rattle.io.specs.Counts.{IsPrefixLen};
 ghost use Rattle.pieces.specs.Pieces.{text, Wrote};

@@ -1,5 +1,7 @@
 // The preferred text of a word, and the word of a text. A row of the syntax is written by `syntax`, with the values of a word's fields, and read by
 // it for the only fields that a text can have: whether the text is theirs is seen by writing it again.
+#![tactic(auto)]
+
 ghost use Rattle.std.specs.Prelude.{◌≡◌, true, false, cond, ◌+◌, ◌≤◌, ◌<◌, length, get_or};
 ghost use Rattle.pieces.specs.Pieces.{Stands};
 ghost use Rattle.syntax.specs.Syntax.{value_in, fill};
@@ -15,14 +17,14 @@ use settings::{Refusal, Settings};
 use words::{Decoded, Family, Fields};
 
 // What `print` answers: the length of the text, or a refusal.
-#[derive(Drop)]
+#[derive(Clone, Copy)]
 pub enum Printed {
     Text(usize),
     Refused(Refusal),
 }
 
 // What `read` answers: the word, or a refusal.
-#[derive(Drop)]
+#[derive(Clone, Copy)]
 pub enum WordRead {
     Word(u32),
     Refused(Refusal),

@@ -1,4 +1,6 @@
 // A row of a syntax, written with values and read for them. What a row says is in specs/.
+#![tactic(auto)]
+
 ghost use Rattle.std.specs.Prelude.{◌≡◌, true, cond, ◌+◌, ◌*◌, ◌≤◌, ◌<◌, length, get_or};
 ghost use Rattle.pieces.specs.Pieces.{Wrote};
 ghost use Rattle.syntax.specs.Syntax.{is_number, value_in, fill, TwoDigits, OneByte};

@@ -1,8 +1,10 @@
+#![tactic(auto)]
+
 ghost use Rattle.std.specs.Prelude.{◌≡◌, ◌+◌, ◌<◌, ◌^◌};
 ghost use Rattle.tally.specs.Tally.{plus};
 
 // The running tally of a run: the bits that rose, those that fell, and those that were written.
-#[derive(Drop)]
+#[derive(Clone, Copy)]
 pub struct Tally {
     pub rises: u32,
     pub falls: u32,

@@ -1,5 +1,7 @@
 // Holds decode, encode, partner, print and read to what LLVM's disassembler says of a few thousand words. The words and
 // LLVM's answers are on standard input, made by tests/llvm/make_vectors.py, whose header has the line's columns.
+#![tactic(auto)]
+
 ghost use Rattle.std.specs.Prelude.{◌<◌, ◌≤◌, length};
 
 use encoding::Encoded;

@@ -1,6 +1,6 @@
 -- What only the code of partner needs, and no promise of a public call names: S by the family. That the rows have it there is proved.
 use Rattle.std.specs.Prelude.{ℕ, ◌^◌, cond}
-use Rattle.std.specs.int_of.Bits.{bit_xor}
+use Rattle.std.specs.Int.Bits.{bit_xor}
 use Rattle.words.specs.Partner.{is_c}
 use Rattle.words.specs.declared.Family.{Family}
 use Rattle.words.specs.declared.Family.TheVariants.{ByElement, Vector, Saturating, LongLong, Long}

@@ -1,9 +1,11 @@
+#![tactic(auto)]
+
 ghost use Rattle.std.specs.Prelude.{◌≡◌, ◌*◌, ◌^◌, ◌<◌};
 ghost use Rattle.layouts.specs.Layout.{matches, value};
 ghost use Rattle.words.specs.Numbers.{family_number, bit_of};
 ghost use Rattle.words.specs.Rows.{row_a, row_b, row_c16, row_c32, row_d2, row_d4, row_e2, row_e4};
-ghost use Rattle.words.specs.Says.{by_element, fields_a16, fields_a32, by_vector, saturating, fields_c, into_za, fields_d, fields_e, As, entry_a, entry_b, table_c, table_za, says_of, says_first, describe as describePaper};
-ghost use Rattle.words.specs.Decode.{enables_family, enables as enablesPaper, decoded_says, decode_paper};
+ghost use Rattle.words.specs.Says.{by_element, fields_a16, fields_a32, by_vector, saturating, fields_c, into_za, fields_d, fields_e, As, entry_a, entry_b, table_c, table_za, says_of, says_first, describe as describe_paper};
+ghost use Rattle.words.specs.Decode.{enables_family, enables as enables_paper, decoded_says, decode_paper};
 ghost use Rattle.words.specs.Kinds.{fields_as, says_as, family_as, enables_said, answer_to};
 ghost use Rattle.words.specs.Partner.{partnered_says, PartnerPromise};
 ghost use Rattle.words.specs.Sign.{partner_in};
@@ -12,7 +14,7 @@ use layouts::*;
 use settings::{Features, Refusal, Settings};
 
 // The families of document 01, A to E, by what they do.
-#[derive(Drop)]
+#[derive(Clone, Copy)]
 pub enum Family {
     // A: by element.
     ByElement,
@@ -27,7 +29,7 @@ pub enum Family {
 }
 
 // What a word says. A field that the family lacks is 0, and the group 1.
-#[derive(Drop)]
+#[derive(Clone, Copy)]
 pub struct Fields {
     pub family: Family,
     pub unsigned: bool,
@@ -49,7 +51,7 @@ pub struct Fields {
 
 // Which fields a word has: A and C by their lane, D and E by their group. A kind is one byte, so that a word can be refused
 // before any field is read.
-#[derive(Drop)]
+#[derive(Clone, Copy)]
 pub enum Kind {
     ByElement16,
     ByElement32,
@@ -64,13 +66,13 @@ pub enum Kind {
     Nothing,
 }
 
-#[derive(Drop)]
+#[derive(Clone, Copy)]
 pub enum Decoded {
     Word(Fields),
     Refused(Refusal),
 }
 
-#[derive(Drop)]
+#[derive(Clone, Copy)]
 pub enum Partnered {
     Word(u32),
     Refused(Refusal),
@@ -429,7 +431,7 @@ fn kind_za(w: u32) -> Kind
 // The kind of a word, whatever the features. The rows of C fix all of the top byte, and so do those of D and E: a word with
 // another top byte needs none of their tests.
 pub fn kind_of(w: u32) -> Kind
-    ensures { describePaper w ≡ says_as result w }
+    ensures { describe_paper w ≡ says_as result w }
 {
     if is_a(w) {
         return kind_a(w);
@@ -465,7 +467,7 @@ pub fn kind_family(kind: Kind) -> Family
 // The fields of a word of the kind, for callers that have refused `Nothing`: what is left for the last arm is E with four
 // registers.
 pub fn fields_of(kind: Kind, w: u32) -> Fields
-    requires { describePaper w ≡ As (fields_as kind w) }
+    requires { describe_paper w ≡ As (fields_as kind w) }
     ensures { result ≡ fields_as kind w }
 {
     match kind {
@@ -498,7 +500,7 @@ fn enables_family(features: Features, family: Family, lane: u32) -> bool
 
 // Whether the features enable a word of these fields.
 pub fn enables(features: Features, f: Fields) -> bool
-    ensures { result ≡ enablesPaper features.0 f }
+    ensures { result ≡ enables_paper features.0 f }
 {
     let family = f.family;
     enables_family(features, family, f.lane)
@@ -518,7 +520,7 @@ pub fn enables_kind(features: Features, kind: Kind, w: u32) -> bool
 // The answer to an enabled word of the kind. Each answer is made where it is returned, since fields that pass from one
 // answer into another are copied, which costs more than finding them.
 fn decoded_as(kind: Kind, word: u32) -> Decoded
-    requires { describePaper word ≡ says_as kind word }
+    requires { describe_paper word ≡ says_as kind word }
     ensures { decoded_says result ≡ answer_to (says_as kind word) }
 {
     match kind {

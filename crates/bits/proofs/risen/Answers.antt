@@ -1,0 +1,11 @@
+-- `bits::risen` meets its contract. Assumes nothing.
+use native.Mathlib.Omega.{arith}
+use Rattle.bits.specs.Bits.{rose}
+use Rattle.bits.proofs.Bits.{rose_once, bits_le}
+use Rattle.bits.proofs.Ones.{ones-new}
+use Rattle.bits.proofs.risen.Goals as goal
+
+pub returns : goal.returns
+returns c =
+    let e = ones-new 64 c.args c.args.after (omega arith) (omega arith) in
+    (e, rw e (bits_le rose rose_once 64 c.args c.args.after))

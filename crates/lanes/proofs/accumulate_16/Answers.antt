@@ -1,0 +1,10 @@
+-- `lanes::accumulate_16` meets its contract, by the laws at 16 bits. Assumes nothing.
+use Rattle.std.proofs.Common.{arith, rules}
+use Rattle.lanes.proofs.Signs.{added, subtracted}
+use Rattle.lanes.proofs.accumulate_16.Goals as goal
+
+pub returns-then-neg : goal.returns-then-neg
+returns-then-neg c = subtracted 16 _ _ _ _ c.if-neg.true (omega arith) c.wrapping_sub_u16.ensures
+
+pub returns : goal.returns
+returns c = added 16 _ _ _ _ c.if-neg.false c.wrapping_add_u16.ensures

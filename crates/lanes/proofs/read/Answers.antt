@@ -1,0 +1,14 @@
+-- `lanes::read` meets its contract, by the laws at the width. Assumes nothing.
+use Rattle.std.proofs.Common.{◌≡◌, ◌+◌, ◌-◌, ◌^◌, arith, pow_pos, rules}
+use Rattle.lanes.proofs.Signs.{read_low, read-high}
+use Rattle.lanes.proofs.Widths.{width_range, two-halves}
+use Rattle.lanes.proofs.read.Goals as goal
+
+pub returns-then-x-h : goal.returns-then-x-h
+returns-then-x-h c = (read_low c.args.width _ _ c.top-h.ensures c.if-x-h.true, c.requires.x_bound)
+
+pub returns : goal.returns
+returns c = (
+  read-high c.args.width _ _ c.top-h.ensures (twice c) c.if-x-h.false c.requires.x_bound,
+  omega (arith, twice c, c.top-h.ensures, pow_pos (c.args.width - 1)),
+)

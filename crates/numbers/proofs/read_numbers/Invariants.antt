@@ -1,0 +1,14 @@
+-- `numbers::read_numbers` meets its contract: each turn and each way out by a law of Rows.antt. Assumes nothing.
+use Prim.Native.Nat.{◌-◌}
+use native.Mathlib.Omega.{arith}
+use mathlib.Core.Path.{sym, ◌∙◌}
+use lib.ListN.{length, length-set}
+use borrow.Author.Rules.{rules}
+use Rattle.numbers.proofs.Rows.{Filling, begin, one_more, out-fault, out-all}
+use Rattle.numbers.proofs.read_numbers.Given as goal
+
+abbrev pub invariant-loop-i : goal.invariant-loop-i
+invariant-loop-i l = Filling l.list l.at l.fn.out l.out l.due l.i
+
+abbrev pub decreases-loop-i : goal.decreases-loop-i
+decreases-loop-i l = length l.out - l.i
