@@ -7,5 +7,5 @@ use Rattle.bits.proofs.fallen.Goals as goal
 
 pub returns : goal.returns
 returns c =
-    let e = ones_old 64 c.args c.args.after (omega arith) (omega arith) in
-    (e, rw e (bits_le fell fell_once 64 c.args c.args.after))
+    let e = ones_old 64 c.args.before c.args.after (omega arith) (omega arith) in
+    (e, rw e (bits_le fell fell_once 64 c.args.before c.args.after))

@@ -7,5 +7,5 @@ use Rattle.bits.proofs.risen.Goals as goal
 
 pub returns : goal.returns
 returns c =
-    let e = ones-new 64 c.args c.args.after (omega arith) (omega arith) in
-    (e, rw e (bits_le rose rose_once 64 c.args c.args.after))
+    let e = ones-new 64 c.args.before c.args.after (omega arith) (omega arith) in
+    (e, rw e (bits_le rose rose_once 64 c.args.before c.args.after))

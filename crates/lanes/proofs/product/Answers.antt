@@ -14,6 +14,6 @@ returns c =
     c.raise_of-h.ensures.0
     c.raised-a.ensures.0
     c.raised-b.ensures.0
-    c.wrapping_add_u64.ensures
+    c.wrapping_add_u64.ensures.value
     (omega arith)
-    c.wrapping_sub_u64.ensures
+    c.wrapping_sub_u64.ensures.value

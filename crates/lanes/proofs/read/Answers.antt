@@ -8,7 +8,8 @@ pub returns-then-x-h : goal.returns-then-x-h
 returns-then-x-h c = (read_low c.args.width _ _ c.top-h.ensures c.if-x-h.true, c.requires.x_bound)
 
 pub returns : goal.returns
-returns c = (
-  read-high c.args.width _ _ c.top-h.ensures (twice c) c.if-x-h.false c.requires.x_bound,
-  omega (arith, twice c, c.top-h.ensures, pow_pos (c.args.width - 1)),
-)
+returns c = let twice : 2 ^ c.args.width ≡ c.top-h.result + c.top-h.result = omega (arith, two-halves c.args.width (width_range c.args.width c.requires.width).0, c.top-h.ensures) in
+    let c = c in (
+      read-high c.args.width _ _ c.top-h.ensures twice c.if-x-h.false c.requires.x_bound,
+      omega (arith, twice, c.top-h.ensures, pow_pos (c.args.width - 1)),
+    )
