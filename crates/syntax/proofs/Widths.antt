@@ -1,13 +1,13 @@
 -- How long the text of a row can be, where it is known of each letter how many digits its number has. Assumes nothing.
-use Prim.Native.Nat.{ℕ, ◌+◌, ◌/◌, ◌%◌, ◌<◌, ◌≤◌}
+use Prim.Native.Nat.{ℕ, ◌+◌, ◌<◌, ◌≤◌}
 use native.Mathlib.Omega.{arith}
-use mathlib.Core.Path.{◌≡◌, refl, ap, ◌∙◌}
+use mathlib.Core.Path.{◌≡◌, ap}
 use mathlib.Core.Bool.{Bool, true, false, cond}
-use mathlib.Core.List.{List, [], ◌∷◌, ◌++◌}
+use mathlib.Core.List.{List, [], ◌∷◌}
 use lib.ListN.{length, length-append}
 use Rattle.pieces.specs.Pieces.{decimal}
 use Rattle.laws.proofs.Tests.{by_lt}
-use Rattle.syntax.specs.Syntax.{is_number, is_byte, value_in, says, fill}
+use Rattle.syntax.specs.Syntax.{is_number, value_in, says, fill}
 use Rattle.syntax.proofs.Laws.{by_test, one_figure, two_figures}
 
 -- which numbers have one digit; the others have at most two

@@ -1,9 +1,5 @@
-use Prim.Native.Nat.{◌-◌}
-use native.Mathlib.Omega.{arith}
 use mathlib.Core.Path.{sym, ◌∙◌}
-use lib.ListN.{length, length-set}
-use borrow.Author.Rules.{rules}
-use Rattle.numbers.proofs.Rows.{Filling, begin, one_more, out-fault, out-all}
+use Rattle.numbers.proofs.Rows.{begin, one_more, out-fault, out-all}
 use Rattle.numbers.proofs.read_numbers.Goals as goal
 
 pub loop-i-init : goal.loop-i-init
@@ -11,11 +7,11 @@ loop-i-init c = begin _ _ _
 
 pub loop-i-preserved : goal.loop-i-preserved
 loop-i-preserved c =
-    one_more c.loop-i.invariant _ _ c.loop-i-test.true (sym c.read_number.ensures ∙ c.value-1.given.1)
+    one_more c.loop-i.invariant _ _ c.loop-i-test.true (sym c.read_number.ensures ∙ c.in-Number.is)
 
 pub returns-in-Fault : goal.returns-in-Fault
 returns-in-Fault c =
-    out-fault c.loop-i.invariant _ _ c.loop-i-test.true (sym c.read_number.ensures ∙ c.refusal-1.given.1)
+    out-fault c.loop-i.invariant _ _ c.loop-i-test.true (sym c.read_number.ensures ∙ c.in-Fault.is)
 
 pub returns : goal.returns
 returns c = out-all c.loop-i.invariant c.loop-i-test.false

@@ -1,10 +1,7 @@
 -- `numbers::read_numbers` meets its contract: each turn and each way out by a law of Rows.antt. Assumes nothing.
 use Prim.Native.Nat.{◌-◌}
-use native.Mathlib.Omega.{arith}
-use mathlib.Core.Path.{sym, ◌∙◌}
-use lib.ListN.{length, length-set}
-use borrow.Author.Rules.{rules}
-use Rattle.numbers.proofs.Rows.{Filling, begin, one_more, out-fault, out-all}
+use lib.ListN.{length}
+use Rattle.numbers.proofs.Rows.{Filling}
 use Rattle.numbers.proofs.read_numbers.Given as goal
 
 abbrev pub invariant-loop-i : goal.invariant-loop-i

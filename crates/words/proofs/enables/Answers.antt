@@ -1,5 +1,4 @@
 -- `words::enables` meets its contract: what `enables_family` ensures of the fields. Assumes nothing.
-use borrow.Author.Rules.{rules}
 use Rattle.words.specs.Decode.{enables}
 use Rattle.words.proofs.enables.Goals as goal
 

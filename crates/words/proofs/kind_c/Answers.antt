@@ -1,5 +1,4 @@
 -- `words::kind_c` meets its contract: each return goes by the rows that did not match and the one that did. Assumes nothing.
-use borrow.Author.Rules.{rules}
 use Rattle.words.specs.Kinds.{says_as}
 use Rattle.words.proofs.kind_c.Goals as goal
 

@@ -1,7 +1,7 @@
 -- `words::kind_of` meets its contract: the rows of A and B, then the rows that the top byte leaves, by the laws of ByKind.antt. Assumes nothing.
 use mathlib.Core.Path.{◌≡◌, ◌∙◌}
+use native.Mathlib.Omega.{arith}
 use mathlib.Core.List.{◌++◌}
-use borrow.Author.Rules.{rules}
 use Rattle.words.specs.Says.{table_c, table_za, says_first, describe}
 use Rattle.words.specs.Kinds.{says_as}
 use Rattle.words.proofs.ByKind.{only_c, only-za, no_row}
@@ -24,14 +24,16 @@ returns-then-is_b c =
     c.kind_b.ensures
 
 pub returns-in-68 : goal.returns-in-68
+unfolding describe
 returns-in-68 c = let after-b : describe c.args.w ≡ says_first (table_c ++ table_za) c.args.w = rw (← c.is_a.ensures, c.if-is_a.false, ← c.is_b.ensures, c.if-is_b.false) in
-    after-b ∙ only_c _ c.ranges.w.fits c.in-68.keys1 ∙ c.kind_c.ensures
+    after-b ∙ only_c _ c.ranges.w.fits c.in-68.is ∙ c.kind_c.ensures
 
 pub returns-in-193 : goal.returns-in-193
+unfolding describe
 returns-in-193 c = let after-b : describe c.args.w ≡ says_first (table_c ++ table_za) c.args.w = rw (← c.is_a.ensures, c.if-is_a.false, ← c.is_b.ensures, c.if-is_b.false) in
-    after-b ∙ only-za _ c.ranges.w.fits c.in-68.keys2 ∙ c.kind_za.ensures
+    after-b ∙ only-za _ c.ranges.w.fits c.in-193.is ∙ c.kind_za.ensures
 
 pub returns-in_default : goal.returns-in_default
-unfolding says_as
+unfolding says_as describe
 returns-in_default c = let after-b : describe c.args.w ≡ says_first (table_c ++ table_za) c.args.w = rw (← c.is_a.ensures, c.if-is_a.false, ← c.is_b.ensures, c.if-is_b.false) in
-    after-b ∙ no_row _ c.ranges.w.fits c.in-68.rest.0.1 c.in-68.rest.1
+    after-b ∙ no_row _ c.ranges.w.fits (λ e. omega arith) (λ e. omega arith)
