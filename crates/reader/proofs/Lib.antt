@@ -1,2 +1,1 @@
 pub mod Seven
-pub mod LentReader
