@@ -2,13 +2,10 @@
 use Prim.Native.Nat.{ℕ, zero, suc, ◌<◌, ◌≤◌}
 use native.Mathlib.Omega.{arith}
 use mathlib.Core.Path.{◌≡◌, refl}
-use mathlib.Core.Bool.{Bool, true, ◌&&◌}
 use mathlib.Core.List.{List, [], ◌∷◌}
-use lib.Dec.{ltb}
 use lib.ListN.{length, get_or, take}
-use borrow.Author.Tests.{ltb-true}
 use Rattle.laws.specs.Lists.{Each}
-use Rattle.laws.proofs.Tests.{both, by_lt}
+use Rattle.laws.proofs.Tests.{by_lt}
 use Rattle.spelling.specs.Candidate.{row_parts}
 
 -- ---- numbers below another

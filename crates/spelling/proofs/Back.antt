@@ -2,7 +2,7 @@
 use Prim.Native.Nat.{ℕ, zero, suc, ◌+◌, ◌-◌, ◌*◌, ◌^◌, ◌<◌, ◌≤◌}
 use Prim.Native.String.{String}
 use native.Mathlib.Omega.{arith}
-use mathlib.Core.Path.{◌≡◌, refl, sym, ap, ◌∙◌}
+use mathlib.Core.Path.{◌≡◌, refl, ap, ◌∙◌}
 use mathlib.Core.Bool.{Bool, true, false, ◌&&◌, cond}
 use mathlib.Core.List.{List, [], ◌∷◌}
 use lib.Dec.{eqb}
@@ -14,7 +14,7 @@ use Rattle.laws.proofs.Bits.{one_bit}
 use Rattle.laws.proofs.Tests.{both, cond-holds, by_lt}
 use Rattle.layouts.specs.Layout.{value}
 use Rattle.pieces.specs.Pieces.{text}
-use Rattle.syntax.specs.Syntax.{is_number, value_in, fill, TwoDigits, OneByte}
+use Rattle.syntax.specs.Syntax.{fill, TwoDigits, OneByte}
 use Rattle.syntax.specs.Scan.{is_letter, taken, clear, among}
 use Rattle.syntax.proofs.Laws.{number_range, taken-fill}
 use Rattle.words.specs.Says.{As, describe, is_one}
@@ -25,7 +25,7 @@ use Rattle.words.specs.declared.Fields.{Fields}
 use Rattle.words.proofs.Table.{◌then◌, said_each}
 use Rattle.words.proofs.Ranges.{by_size}
 use Rattle.spelling.specs.Rows.{syntaxes, nth, syntax_at}
-use Rattle.spelling.specs.Spell.{byte_of, last_offset, sign_byte, add_byte, part_byte, letters, letter_values, row_for, spell}
+use Rattle.spelling.specs.Spell.{byte_of, last_offset, sign_byte, add_byte, letters, letter_values, row_for, spell}
 use Rattle.spelling.specs.Candidate.{value_named, group_of, fields_by, candidate_at}
 use Rattle.spelling.specs.Tried.{Figures}
 use Rattle.spelling.proofs.Arms.{each_front, each_all}
@@ -214,18 +214,25 @@ abbrev grouped : Family → Bool → Bool → ℕ → ℕ → ℕ → ℕ → �
 grouped family u s lane n m g v o =
     record { family = family; unsigned = u; subtract = s; lane = lane; part = 0; index = 0; destination = 0; first = n; second = m; group = g; select = v; offset = o }
 
-d-back : (u s : Bool) (n m g v o : ℕ) → (0 < g) × (g < 5) → (z : ℕ) → z < 2 → Both (grouped LongLong u s (8 + 8 * z) n m g v o)
+-- the same of a lane that its text names
+d-lane : (u s short : Bool) (n m g v o : ℕ) → (0 < g) × (g < 5)
+    → Back (row_for short (grouped LongLong u s 8 n m g v o)) (grouped LongLong u s 8 n m g v o)
+    × Back (row_for short (grouped LongLong u s 16 n m g v o)) (grouped LongLong u s 16 n m g v o)
 unfolding row_for syntax_at among letter_values
+d-lane u s true n m g v o h = (
+  fields_eq _ _ refl (sign-back u) (add_back s) refl refl refl refl refl refl (group-back n g h) refl refl,
+  fields_eq _ _ refl (sign-back u) (add_back s) refl refl refl refl refl refl (group-back n g h) refl refl,
+)
+d-lane u s false n m g v o h = (
+  fields_eq _ _ refl (sign-back u) (add_back s) refl refl refl refl refl refl (group-back n g h) refl refl,
+  fields_eq _ _ refl (sign-back u) (add_back s) refl refl refl refl refl refl (group-back n g h) refl refl,
+)
+
+d-back : (u s : Bool) (n m g v o : ℕ) → (0 < g) × (g < 5) → (z : ℕ) → z < 2 → Both (grouped LongLong u s (8 + 8 * z) n m g v o)
 d-back u s n m g v o h =
     one_bit (λ (z : ℕ). Both (grouped LongLong u s (8 + 8 * z) n m g v o))
-    (λ short. elim short [
-      | true ↦ fields_eq _ _ refl (sign-back u) (add_back s) refl refl refl refl refl refl (group-back n g h) refl refl
-      | false ↦ fields_eq _ _ refl (sign-back u) (add_back s) refl refl refl refl refl refl (group-back n g h) refl refl
-    ])
-    (λ short. elim short [
-      | true ↦ fields_eq _ _ refl (sign-back u) (add_back s) refl refl refl refl refl refl (group-back n g h) refl refl
-      | false ↦ fields_eq _ _ refl (sign-back u) (add_back s) refl refl refl refl refl refl (group-back n g h) refl refl
-    ])
+    (λ short. (d-lane u s short n m g v o h).0)
+    (λ short. (d-lane u s short n m g v o h).1)
 
 e-back : (u s : Bool) (n m g v o : ℕ) → (0 < g) × (g < 5) → Both (grouped Long u s 16 n m g v o)
 unfolding row_for syntax_at among letter_values

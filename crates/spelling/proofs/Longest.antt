@@ -1,14 +1,13 @@
 -- No text is longer than the longest. Assumes nothing.
 use Prim.Native.Nat.{ℕ, ◌+◌, ◌-◌, ◌<◌, ◌≤◌}
 use native.Mathlib.Omega.{arith}
-use mathlib.Core.Path.{◌≡◌, refl, ap, ◌∙◌}
+use mathlib.Core.Path.{◌≡◌, refl, ap}
 use mathlib.Core.Bool.{Bool, false, ◌||◌, cond}
-use mathlib.Core.List.{List}
 use lib.Dec.{eqb}
-use lib.ListN.{length, take}
+use lib.ListN.{length}
 use Rattle.laws.specs.Lists.{Each}
 use Rattle.pieces.specs.Pieces.{text, decimal, decimal_up_to}
-use Rattle.syntax.specs.Syntax.{is_number, value_in, fill}
+use Rattle.syntax.specs.Syntax.{value_in, fill}
 use Rattle.syntax.proofs.Laws.{number_range}
 use Rattle.syntax.proofs.Widths.{Narrow, width, length-fill}
 use Rattle.words.specs.Says.{describe}
@@ -17,7 +16,6 @@ use Rattle.words.specs.declared.Fields.{Fields}
 use Rattle.words.proofs.Table.{◌then◌}
 use Rattle.spelling.specs.Rows.{syntax_at}
 use Rattle.spelling.specs.Spell.{byte_of, letter_values, row_for, spell, longest_text}
-use Rattle.spelling.specs.Language.{Spells}
 use Rattle.spelling.specs.Theorems.{NoLonger, OneAsLong}
 use Rattle.spelling.specs.Tried.{Figures}
 use Rattle.spelling.proofs.Arms.{below, each_below}

@@ -1,7 +1,7 @@
 -- What print puts into the room. Assumes nothing.
 use Prim.Native.Nat.{ℕ, ◌+◌, ◌<◌, ◌≤◌}
 use native.Mathlib.Omega.{arith}
-use mathlib.Core.Path.{◌≡◌, refl, sym, ap, ap₂, ◌∙◌}
+use mathlib.Core.Path.{◌≡◌, refl, ap, ap₂, ◌∙◌}
 use mathlib.Core.Bool.{Bool, true, false, cond}
 use mathlib.Core.List.{List, ◌++◌}
 use lib.Dec.{eqb}
@@ -10,13 +10,9 @@ use borrow.Author.Tests.{le-leb, lt-leb, ne_eqb}
 use Rattle.pieces.specs.Pieces.{Wrote}
 use Rattle.syntax.specs.Syntax.{fill}
 use Rattle.settings.specs.declared.Settings.{Settings}
-use Rattle.settings.specs.Refused.{refusal_number}
-use Rattle.settings.specs.declared.Refusal.{Refusal}
-use Rattle.words.specs.Decode.{decode_paper, decoded_says, no_fields}
+use Rattle.words.specs.Decode.{decode_paper}
 use Rattle.words.specs.declared.Family.TheVariants.{ByElement, Vector}
 use Rattle.words.specs.declared.Fields.{Fields}
-use Rattle.words.specs.declared.Decoded.{Decoded}
-use Rattle.words.specs.declared.Decoded.TheVariants.{Word, Refused}
 use Rattle.spelling.specs.Rows.{syntax_at}
 use Rattle.spelling.specs.Spell.{letter_values, row_by, row_for, spell}
 use Rattle.spelling.specs.Print.{put_into, print_paper}

@@ -2,7 +2,7 @@
 use Prim.Native.Nat.{ℕ, zero, suc, ◌<◌, ◌≤◌}
 use Prim.Native.String.{String}
 use native.Mathlib.Omega.{arith}
-use mathlib.Core.Path.{◌≡◌, refl, sym, ap, ◌∙◌, subst}
+use mathlib.Core.Path.{◌≡◌, refl, sym, ap, ◌∙◌}
 use mathlib.Core.Bool.{Bool, true, false, not, ◌&&◌, ◌||◌}
 use mathlib.Core.List.{List, [], ◌∷◌}
 use lib.Dec.{eqb}
@@ -13,7 +13,6 @@ use Rattle.pieces.specs.Pieces.{text, decimal, decimal_up_to}
 use Rattle.syntax.specs.Syntax.{fill}
 use Rattle.syntax.specs.Scan.{fits, taken, number_of, passes_of}
 use Rattle.words.specs.Says.{describe}
-use Rattle.words.specs.declared.Fields.{Fields}
 use Rattle.encoding.specs.Candidate.{candidate_of, says_only}
 use Rattle.encoding.proofs.Equal.{fails-none}
 use Rattle.spelling.specs.Rows.{syntax_at}

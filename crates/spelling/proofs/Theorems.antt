@@ -1,9 +1,9 @@
 -- Each text has one reading, and printing it gives the preferred text; the promise of read determines its answer. Assumes nothing.
-use Prim.Native.Nat.{ℕ, zero, suc, ◌<◌, ◌≤◌, ◌^◌}
+use Prim.Native.Nat.{ℕ, zero, suc, ◌<◌}
 use Prim.Native.String.{String}
 use native.Mathlib.Omega.{arith}
 use mathlib.Core.Path.{◌≡◌, refl, sym, ap, ◌∙◌, subst}
-use mathlib.Core.Bool.{Bool, true, false, ◌&&◌}
+use mathlib.Core.Bool.{Bool, true, ◌&&◌}
 use mathlib.Core.List.{List, [], ◌∷◌}
 use lib.ListN.{length}
 use Rattle.laws.proofs.Tests.{both, never_both}
@@ -12,11 +12,9 @@ use Rattle.syntax.specs.Syntax.{fill, TwoDigits}
 use Rattle.syntax.specs.Scan.{clear}
 use Rattle.syntax.proofs.Laws.{apart, no_text_in_both}
 use Rattle.settings.specs.declared.Settings.{Settings}
-use Rattle.words.specs.Says.{As, describe}
-use Rattle.words.specs.Decode.{enables, decode_paper}
-use Rattle.words.specs.declared.Fields.{Fields}
-use Rattle.words.proofs.Answers.{Accepted, decodes_exactly}
-use Rattle.encoding.specs.Encode.{Has}
+use Rattle.words.specs.Says.{As}
+use Rattle.words.specs.Decode.{enables}
+use Rattle.words.proofs.Answers.{decodes_exactly}
 use Rattle.encoding.proofs.Theorems.{one_word}
 use Rattle.spelling.specs.Rows.{syntaxes, nth, syntax_at}
 use Rattle.spelling.specs.Spell.{letter_values, row_for, spell}

@@ -1,7 +1,6 @@
 -- What request One says of texts, in its words. Statements only: proofs/Theorems.antt and proofs/Longest.antt prove each.
-use Rattle.std.specs.Prelude.{ℕ, ◌<◌, ◌≤◌, ◌^◌, ◌≡◌, Bool, true, false, List, length}
+use Rattle.std.specs.Prelude.{ℕ, ◌<◌, ◌≤◌, ◌^◌, ◌≡◌, Bool, false, List, length}
 use Rattle.settings.specs.declared.Settings.{Settings}
-use Rattle.words.specs.Says.{As, describe}
 use Rattle.words.specs.Decode.{decode_paper}
 use Rattle.words.specs.declared.Fields.{Fields}
 use Rattle.spelling.specs.Spell.{spell, longest_text}

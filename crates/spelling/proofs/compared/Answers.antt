@@ -1,0 +1,21 @@
+-- `spelling::compared` meets its contract. Assumes nothing.
+use Prim.Native.Nat.{◌<◌, ◌^◌}
+use native.Mathlib.Omega.{arith}
+use Rattle.laws.proofs.Tests.{never_both}
+use Rattle.spelling.proofs.Back.{figures}
+use Rattle.encoding.proofs.Found.{is_word, is_none}
+use Rattle.spelling.proofs.Reading.{no-word_of, candidate_spells, other_text}
+use Rattle.spelling.proofs.compared.Goals as goal
+
+pub returns-then-word-ge-NO_WORD : goal.returns-then-word-ge-NO_WORD
+returns-then-word-ge-NO_WORD c = is_none (no-word_of c.args.text.now c.args.k c.args.f c.requires.1 (c.word_with-word.ensures.none c.if-word-ge-NO_WORD.true))
+
+pub is_theirs-requires : goal.is_theirs-requires
+is_theirs-requires c = (c.requires.0, figures _ c.args.f (c.word_with-word.ensures.found (omega arith)).says)
+
+pub returns-then-is_theirs : goal.returns-then-is_theirs
+returns-then-is_theirs c = let h : c.word_with-word.result < 2 ^ 32 = omega arith in
+    is_word _ h (candidate_spells c.args.k c.args.text.now c.args.f _ c.requires.0 c.requires.1 (c.is_theirs.ensures.0 c.if-is_theirs.true) (c.word_with-word.ensures.found h))
+
+pub returns : goal.returns
+returns c = is_none (other_text c.args.text.now c.args.k c.args.f c.requires.1 (λ e. never_both _ (c.is_theirs.ensures.1 e) c.if-is_theirs.false))
