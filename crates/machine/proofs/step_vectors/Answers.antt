@@ -1,0 +1,33 @@
+use mathlib.Core.Path.{◌≡◌, refl, sym, ap, ◌∙◌}
+use Prim.Native.Nat.{ℕ, ◌+◌, ◌*◌, ◌≤◌, ◌<◌}
+use native.Mathlib.Omega.{arith}
+use Rattle.elements.specs.Files.{replaced}
+use Rattle.bits.proofs.Bits.{rises-same, falls-same}
+use Rattle.words.specs.declared.Fields.{Fields}
+use Rattle.recipes.specs.Recipe.{per_source}
+use mathlib.Core.List.{List}
+use Rattle.machine.specs.Loop.{Places, Grid}
+use Rattle.machine.proofs.Vectors.{few-vectors, Turned, turn, count_next}
+use Rattle.machine.proofs.step_vectors.Goals as goal
+
+-- a count stays small
+small : (f : Fields) (w : ℕ) (z za : List ℕ) (stride k first q so_far more : ℕ) → (p : Places f w z za) → (g : Grid w f.group stride k first × (k ≡ per_source f.family))
+    → q < f.group * k → so_far ≤ q * (8 * w) → more ≤ 8 * w → (so_far + more ≤ (q + 1) * (8 * w)) × (so_far + more ≤ 32768)
+small f w z za stride k first q so_far more p g in_turn = count_next w q (f.group * k) so_far more p.sources.width.most (few-vectors p g.0 g.1) in_turn
+
+pub loop-q-init : goal.loop-q-init
+unfolding replaced
+loop-q-init c = (omega arith, refl, (sym (rises-same _), sym (falls-same _)), (omega arith, omega arith), refl)
+
+pub loop-q-preserved : goal.loop-q-preserved
+loop-q-preserved c =
+    let turned : Turned c.requires.places c.requires.grid.0 c.loop-q.q c.step_vector-toggles.result c.loop-q.za c.step_vector-toggles.new.za =
+    turn c.requires.places c.requires.grid.0 c.loop-q.q c.step_vector-toggles.result _ _ c.loop-q.za _ c.loop-q-test.true c.loop-q.invariant.1 c.quotient-r.ensures c.remainder-i.ensures c.step_vector-toggles.ensures in
+    let rises = small c.args.fields c.args.w c.args.z.now c.args.za.now c.args.stride c.args.k c.args.first c.loop-q.q c.loop-q.rises c.step_vector-toggles.result.rises c.requires.places c.requires.grid c.loop-q-test.true c.loop-q.invariant.3.0 (omega (arith, turned.few)) in
+    let falls = small c.args.fields c.args.w c.args.z.now c.args.za.now c.args.stride c.args.k c.args.first c.loop-q.q c.loop-q.falls c.step_vector-toggles.result.falls c.requires.places c.requires.grid c.loop-q-test.true c.loop-q.invariant.3.1 (omega (arith, turned.few)) in (
+      omega (arith, c.loop-q-test.true),
+      turned.after,
+      (ap (λ (n : ℕ). n + c.step_vector-toggles.result.rises) c.loop-q.invariant.2.0 ∙ turned.rise, ap (λ (n : ℕ). n + c.step_vector-toggles.result.falls) c.loop-q.invariant.2.1 ∙ turned.fall),
+      (rises.0, falls.0),
+      c.step_vector-toggles.auto.za ∙ c.loop-q.invariant.4,
+    )
