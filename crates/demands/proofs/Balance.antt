@@ -1,20 +1,18 @@
 -- The statements of specs/Balance.antt, proved. Assumes nothing.
-use Prim.Native.Nat.{ℕ, ◌+◌, ◌*◌}
+use Prim.Native.Nat.{ℕ, ◌+◌}
 use native.Mathlib.Omega.{arith}
-use mathlib.Core.Path.{◌≡◌, refl, sym, ap, subst}
+use mathlib.Core.Path.{◌≡◌, sym, subst}
 use mathlib.Core.List.{List, [], ◌∷◌}
 use lib.ListN.{length, replicate}
 use Rattle.settings.specs.declared.Settings.{Settings}
-use Rattle.bits.specs.Bits.{ones_of, zeros_of, rises, falls}
 use Rattle.bits.proofs.Bits as bits
 use Rattle.tally.specs.Tally.{plus}
 use Rattle.tally.specs.declared.Tally.{Tally}
 use Rattle.machine.specs.Execute.{Outcome, execute_paper}
-use Rattle.machine.specs.Run.{Report, Run, run_of}
-use Rattle.runlist.specs.Plan.{lengths_of, Found, found, Asked, plan_of}
-use Rattle.runlist.specs.RunList.{Ended, no_tally, tallied, carried_out, run_paper}
-use Rattle.demands.specs.Execution.{Always}
-use Rattle.demands.specs.Balance.{ones, BitsAre, Balances, RisesFromZeros, FallsFromOnes, tally_of, RunBalances, EndBalances, ListBalances}
+use Rattle.machine.specs.Run.{run_of}
+use Rattle.runlist.specs.Plan.{Found, Asked}
+use Rattle.runlist.specs.RunList.{no_tally, tallied, carried_out, run_paper}
+use Rattle.demands.specs.Balance.{ones, BitsAre, Balances, RisesFromZeros, FallsFromOnes, RunBalances, EndBalances, ListBalances}
 use Rattle.demands.proofs.Execution.{each_counted, lengths-kept}
 
 pub bits_are : BitsAre
