@@ -1,15 +1,11 @@
 -- The statements of specs/Refusals.antt, proved. Assumes nothing.
-use Prim.Native.Nat.{ℕ, ◌+◌, ◌*◌, ◌<◌, ◌≤◌}
-use native.Mathlib.Omega.{arith}
-use mathlib.Core.Path.{◌≡◌, refl, sym, ap, ◌∙◌}
+use Prim.Native.Nat.{ℕ, ◌+◌, ◌*◌, ◌≤◌}
+use mathlib.Core.Path.{◌≡◌, refl, ap, ◌∙◌}
 use mathlib.Core.Bool.{true, false}
-use mathlib.Core.Logic.{◌≢◌}
 use mathlib.Core.List.{List}
 use lib.ListN.{length, take, drop}
 use borrow.Author.Tests.{lt-leb, le-leb, eq-eqb, ne_eqb}
 use Rattle.laws.proofs.Tests.{failed}
-use Rattle.settings.specs.Valid.{valid_settings}
-use Rattle.settings.specs.Refused.{refusal_number}
 use Rattle.settings.specs.declared.Refusal.TheVariants.{BadSettings, BadLength, ListEnds, TooManyWords, ExtraBytes}
 use Rattle.settings.specs.declared.Settings.{Settings}
 use Rattle.settings.proofs.Refusals.{not_0}

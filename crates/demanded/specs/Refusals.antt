@@ -12,7 +12,7 @@ use Rattle.words.specs.Decode.{enables, no_fields, decode_paper}
 use Rattle.words.specs.Partner.{partner_paper}
 use Rattle.words.specs.declared.Family.TheVariants.{Saturating}
 use Rattle.words.specs.declared.Fields.{Fields}
-use Rattle.encoding.specs.Encode.{Has, Encodes}
+use Rattle.encoding.specs.Encode.{Has}
 use Rattle.numbers.specs.Numbers.{all, fault, number_at, numbers_at}
 use Rattle.numbers.specs.declared.Read.TheVariants.{Number, Fault}
 use Rattle.machine.specs.Execute.{right_lengths, ExecutePromise}
