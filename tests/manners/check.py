@@ -20,19 +20,31 @@ LAMP = os.path.join(ROOT, "lamp")
 SPELL = os.path.join(ROOT, "spell")
 NOBODY = 65534
 
-# What stands at the place of rt: it proves nothing, and tells of three crates as rt does. The file `slow` in its folder
+# What stands at the place of rt: it proves nothing, and tells of two crates as rt does. The file `slow` in its folder
 # has it wait until the file is gone, and the file `fails` has it fail.
 STAND_IN = """#!/bin/sh
 here=$(dirname "$0")
-[ "$1" = check ] || exec "$(cat "$here/rt.path")" "$@"
-[ ! -e "$here/fails" ] || { echo 'error[x]: a fault'; echo 'rt: words NOT PROVED'; exit 1; }
-echo 'fn laws::x: proved'
-echo 'rt: laws proved (unchanged since it was last proved)'
-echo 'rt: words proved (1 s)'
-touch "$here/begun"
-while [ -e "$here/slow" ]; do sleep 0.02; done
-[ -e "target/stamp/$2" ] || { cp "$here/built" "target/bin/$2"; : > "target/stamp/$2"; }
-echo "rt: $2 proved (1 s)"
+[ "$1" = run ] || exec "$(cat "$here/rt.path")" "$@"
+name=$(basename "$PWD")
+{
+    [ ! -e "$here/fails" ] || {
+        echo 'src/lib.rt:21:5: error[x]: a fault'
+        echo 'rt: the library words did not build, so nothing above it was checked'
+        exit 1
+    }
+    echo 'fn words::x: proved'
+    echo 'library laws: modules loaded=20 checked=0'
+    echo 'crate words: modules loaded=0 checked=35'
+    echo 'logic=proved functions=1'
+    touch "$here/begun"
+    while [ -e "$here/slow" ]; do sleep 0.02; done
+    mkdir -p out
+    cp "$here/built" "out/$name"
+    echo "crate $name: modules loaded=0 checked=35"
+    echo 'logic=proved functions=1'
+    echo "rt: running out/$name; to give it other input, run that file yourself"
+} >&2
+exec "out/$name"
 """
 
 checks = 0
@@ -251,12 +263,15 @@ def check_link():
 
 
 def copy_repository(to):
-    """What the scripts read, with what is built."""
+    """What the scripts read, with what is built; their times are kept, so that it counts as built in the copy too."""
     os.mkdir(to)
     for part in ("lamp", "spell", "crates.txt"):
         shutil.copy2(os.path.join(ROOT, part), to)
-    for part in ("tools", "include", "crates", "target/bin", "target/stamp"):
-        shutil.copytree(os.path.join(ROOT, part), os.path.join(to, part))
+    for part in ("tools", "include", "crates", "target/bin"):
+        shutil.copytree(os.path.join(ROOT, part), os.path.join(to, part), ignore=shutil.ignore_patterns("out"))
+    for name in ("lamp", "spell"):
+        for end in ("begun", "checked"):
+            shutil.copy2(os.path.join(ROOT, f"target/{name}.{end}"), os.path.join(to, "target"))
     return os.path.join(to, "lamp")
 
 
@@ -307,10 +322,11 @@ def check_first_use(lamp, folder, way):
     check_run("target/bin/lamp is gone", [lamp], three, 0, printed, said, env=way)
     check_run("the second use", [lamp], three, 0, printed, refused("lamp", [3]), env=way)
     with open(os.path.join(target, "log/lamp.check")) as log:
-        due("target/log", "fn laws::x: proved" in log.read(), "has not what rt said")
+        due("target/log", "fn words::x: proved" in log.read(), "has not what rt said")
     touch(os.path.join(os.path.dirname(lamp), "crates/laws/specs/Lists.antt"))
     touch(os.path.join(folder, "fails"))
-    said = ["lamp: proves and builds", "error[x]: a fault", "rt: words NOT PROVED", "lamp: 'rt check lamp' failed"]
+    said = ["lamp: proves and builds", "error[x]: a fault", "rt: the library words did not build"]
+    said.append("lamp: 'rt run' in crates/lamp failed")
     check_run("a proof that fails", [lamp], three, 2, b"", said, env=way)
     os.remove(os.path.join(folder, "fails"))
 
@@ -332,9 +348,8 @@ def check_waiting(lamp, folder, way):
 
 
 def check_built_again(lamp):
-    """By rt itself, of the program that it proves fastest."""
+    """By rt itself, of the program that it proves fastest. What it stands on rt takes from where that is proved."""
     folder = os.path.dirname(lamp)
-    shutil.copytree(os.path.join(ROOT, "target/rlib"), os.path.join(folder, "target/rlib"), dirs_exist_ok=True)
     os.remove(os.path.join(folder, "target/bin/spell"))
     status, printed, told = run([os.path.join(folder, "spell")], b"C1A20008\n")
     due("target/bin/spell is gone", (status, printed[:7]) == (0, b"smlsll "), f"ended with {status}, said '{told}'")

@@ -1,5 +1,5 @@
-// The C interface: the public calls over numbers and arrays, as include/callinglamp.h declares them. It only unpacks what they take, and
-// packs what they answer.
+// The public calls over numbers and arrays, as include/callinglamp.h declares them. It only unpacks what they take, and packs what they
+// answer. `host_c` gives these functions to C.
 #![tactic(auto)]
 
 ghost use Rattle.host.specs.Host.{HostDecode, HostEncode, HostPartner, HostExecute, HostPercent, HostRun, HostPrint, HostRead, HostVersion};
@@ -7,8 +7,7 @@ ghost use Rattle.host.specs.Host.{HostDecode, HostEncode, HostPartner, HostExecu
 use packing::GivenFields;
 
 // The fields of a word, in `fields`. Refusals 1, 3.
-#[unsafe(no_mangle)]
-pub extern "C" fn callinglamp_decode(settings: &[u32; 7], word: u32, fields: &mut [u32; 12]) -> u64
+pub fn callinglamp_decode(settings: &[u32; 7], word: u32, fields: &mut [u32; 12]) -> u64
     ensures { HostDecode settings.now word fields.old result fields.new }
 {
     packing::decoded(
@@ -18,8 +17,7 @@ pub extern "C" fn callinglamp_decode(settings: &[u32; 7], word: u32, fields: &mu
 }
 
 // The word that has exactly these fields. Refusals 1, 5, 3.
-#[unsafe(no_mangle)]
-pub extern "C" fn callinglamp_encode(settings: &[u32; 7], fields: &[u32; 12]) -> u64
+pub fn callinglamp_encode(settings: &[u32; 7], fields: &[u32; 12]) -> u64
     ensures { HostEncode settings.now fields.now result }
 {
     let given = runlist::settings_of(settings);
@@ -30,16 +28,14 @@ pub extern "C" fn callinglamp_encode(settings: &[u32; 7], fields: &[u32; 12]) ->
 }
 
 // The word with S flipped. Refusals 1, 3, 6.
-#[unsafe(no_mangle)]
-pub extern "C" fn callinglamp_partner(settings: &[u32; 7], word: u32) -> u64
+pub fn callinglamp_partner(settings: &[u32; 7], word: u32) -> u64
     ensures { HostPartner settings.now word result }
 {
     packing::partnered(callinglamp::partner(runlist::settings_of(settings), word))
 }
 
 // Executes one word on Z and ZA; `counts` takes rises, falls and written. Refusals 1, 2, 3, 4.
-#[unsafe(no_mangle)]
-pub extern "C" fn callinglamp_execute(
+pub fn callinglamp_execute(
     settings: &[u32; 7],
     word: u32,
     z: &mut [u8],
@@ -55,8 +51,7 @@ pub extern "C" fn callinglamp_execute(
 }
 
 // What share of the bits that were written toggled, in hundredths: its 64 bits are that number.
-#[unsafe(no_mangle)]
-pub extern "C" fn callinglamp_percent(toggled: u32, written: u32) -> u64
+pub fn callinglamp_percent(toggled: u32, written: u32) -> u64
     ensures { HostPercent toggled written result }
 {
     callinglamp::percent(toggled, written)
@@ -64,8 +59,7 @@ pub extern "C" fn callinglamp_percent(toggled: u32, written: u32) -> u64
 
 // Runs a list on Z and ZA, and reports four numbers for each word; `totals` takes the count of words and their tally. Refusals 1, 2, 7 to
 // 10, with the place beside the number.
-#[unsafe(no_mangle)]
-pub extern "C" fn callinglamp_run(
+pub fn callinglamp_run(
     list: &[u8],
     z: &mut [u8],
     za: &mut [u8],
@@ -78,24 +72,21 @@ pub extern "C" fn callinglamp_run(
 }
 
 // The preferred text of a word, at the start of the room, with its length beside the number. Refusals 1, 3, 12.
-#[unsafe(no_mangle)]
-pub extern "C" fn callinglamp_print(settings: &[u32; 7], word: u32, room: &mut [u8]) -> u64
+pub fn callinglamp_print(settings: &[u32; 7], word: u32, room: &mut [u8]) -> u64
     ensures { HostPrint settings.now word room.old result room.new }
 {
     packing::printed(callinglamp::print_word(runlist::settings_of(settings), word, room))
 }
 
 // The word of a text. Refusals 1, 11, 3.
-#[unsafe(no_mangle)]
-pub extern "C" fn callinglamp_read(settings: &[u32; 7], text: &[u8]) -> u64
+pub fn callinglamp_read(settings: &[u32; 7], text: &[u8]) -> u64
     ensures { HostRead settings.now text.now result }
 {
     packing::was_read(callinglamp::read_word(runlist::settings_of(settings), text))
 }
 
 // The version of the library that was linked, for a caller who was compiled with the header of another.
-#[unsafe(no_mangle)]
-pub extern "C" fn callinglamp_version() -> u32
+pub fn callinglamp_version() -> u32
     ensures { HostVersion result }
 {
     30000
