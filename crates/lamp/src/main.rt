@@ -2,7 +2,6 @@
 #![tactic(auto)]
 
 ghost use Rattle.std.specs.Prelude.{◌≡◌, ◌+◌, ◌*◌, ◌≤◌, ◌<◌, length, take};
-ghost use Rattle.io.specs.Counts.{IsPrefixLen};
 ghost use Rattle.pieces.specs.Pieces.{Wrote};
 ghost use Rattle.runlist.specs.Plan.{most_words};
 ghost use Rattle.demands.specs.Lists.{longest};
@@ -131,7 +130,7 @@ fn input_room() -> [u8; INPUT]
 
 // Reads until the room is full, the input ends or a read fails, and tells how many bytes it put at the room's start.
 fn read_full(from: &mut impl io::Read, room: &mut [u8]) -> usize
-    ensures { IsPrefixLen result room.new }
+    ensures { (result ≤ length room.new) × (result ≡ length (take result room.new)) }
 {
     let mut done = 0;
     while done < room.len() {

@@ -2,11 +2,10 @@
 #![tactic(auto)]
 
 ghost use Rattle.std.specs.Prelude.{◌≡◌, false, ◌++◌, ◌+◌, ◌≤◌, ◌<◌, length, IfOk};
-ghost use Rattle.io.specs.Counts.{IsPrefixLen};
 ghost use Rattle.pieces.specs.Pieces.{text, Wrote};
 ghost use Rattle.words.specs.Decode.{decode_paper};
 ghost use Rattle.spelling.specs.Spell.{longest_text};
-ghost use Rattle.spell.specs.Spelled.{all_on, is_hex_digit, digit_of, is_word, word_in, word_text, Answered};
+ghost use Rattle.spell.specs.Spelled.{all_on, is_hex_digit, digit_of, is_word, word_in, word_text, Answered, IsPrefixLen};
 
 use settings::{Features, Modes, Settings};
 use spelling::Printed;

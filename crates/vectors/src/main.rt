@@ -2,8 +2,7 @@
 // LLVM's answers are on standard input, made by tests/llvm/make_vectors.py, whose header has the line's columns.
 #![tactic(auto)]
 
-ghost use Rattle.std.specs.Prelude.{◌≡◌, ◌<◌, ◌≤◌, length};
-ghost use Rattle.io.specs.Counts.{IsPrefixLen};
+ghost use Rattle.std.specs.Prelude.{◌≡◌, ◌<◌, ◌≤◌, length, take};
 
 use encoding::Encoded;
 use settings::{Features, Modes, Settings};
@@ -413,7 +412,7 @@ fn check_list(rt: &impl Print, list: &[u8]) -> io::Result<()> {
 
 // Reads until the room is full, the input ends or a read fails, and tells how many bytes it put at the room's start.
 fn read_full(from: &mut impl Read, room: &mut [u8]) -> usize
-    ensures { IsPrefixLen result room.new }
+    ensures { (result ≤ length room.new) × (result ≡ length (take result room.new)) }
 {
     let mut done = 0;
     while done < room.len() {
