@@ -8,9 +8,9 @@ ghost use Rattle.demands.specs.Lists.{longest};
 ghost use Rattle.lamp.specs.Lamp.{lines_of, register_of, register_bytes, printed, WordsAgain};
 
 use callinglamp::RunAnswer;
-use libc::{STDIN_FILENO, STDOUT_FILENO};
 use numbers::Read;
 use runlist::Front;
+use std::io;
 
 // How much of the input is kept.
 const INPUT: usize = 8192;
@@ -128,17 +128,33 @@ fn input_room() -> [u8; INPUT]
     [0; INPUT]
 }
 
-fn drain_some() -> bool {
-    let mut buffer = io::buffer();
-    libc::read(STDIN_FILENO, &mut buffer) > 0
+// Reads until the room is full, the input ends or a read fails, and tells how many bytes it put at the room's start.
+fn read_full(from: &mut impl io::Read, room: &mut [u8]) -> usize
+    ensures { (result ≤ length room.new) × (result ≡ length (take result room.new)) }
+{
+    let mut done = 0;
+    while done < room.len() {
+        let got = from.read(&mut room[done..]).unwrap_or(0);
+        if got == 0 {
+            break;
+        }
+        done += got;
+    }
+    done
+}
+
+fn drain_some(from: &mut impl io::Read) -> bool {
+    let mut buffer = [0u8; 4096];
+    from.read(&mut buffer).unwrap_or(0) > 0
 }
 
 // Reads the rest of the input, so that whoever writes it is not cut off. A proved loop has to end, and nothing says that
 // the input does: the turns are more than any run takes.
-fn drain_input() {
-    let mut turns = u64::MAX;
-    while turns > 0 && drain_some() {
-        turns -= 1;
+fn drain_input(from: &mut impl io::Read) {
+    for _ in 0..u64::MAX {
+        if !drain_some(from) {
+            break;
+        }
     }
 }
 
@@ -147,13 +163,14 @@ fn text_room() -> [u8; TEXT] {
     [0; TEXT]
 }
 
-fn main() {
+fn main(rt: HostRuntime) -> io::Result<()> {
+    let mut stdin = rt.stdin();
     let mut input = input_room();
-    let got = io::read_full(STDIN_FILENO, &mut input);
+    let got = read_full(&mut stdin, &mut input);
     if got == INPUT {
-        drain_input();
+        drain_input(&mut stdin);
     }
     let mut out = text_room();
     let length = put_printed(&input[..got], &mut out);
-    io::write_all(STDOUT_FILENO, &out[..length]);
+    rt.write_all(&out[..length])
 }

@@ -7,7 +7,6 @@ use mathlib.Core.Bool.{false}
 use mathlib.Core.List.{List, ◌++◌}
 use lib.ListN.{length, set}
 use lib.Seq.{paste, paste-zero, paste-suc}
-use Rattle.io.specs.Counts.{IsPrefixLen}
 use Rattle.pieces.specs.Pieces.{text, digits, decimal, decimal_up_to, hex8, Wrote}
 use Rattle.pieces.proofs.Pieces.{and_then, said, stands, copied, ends_inside}
 use Rattle.settings.specs.declared.Refusal.{Refusal}
@@ -16,7 +15,7 @@ use Rattle.spelling.specs.Spell.{longest_text}
 use Rattle.spelling.specs.Print.{PrintPromise}
 use Rattle.spelling.specs.Language.{Spells, not-text}
 use Rattle.spelling.specs.declared.Printed.TheVariants.{Text, Refused}
-use Rattle.spell.specs.Spelled.{all_on, is_word, word_in, unless_refused, word_text, Answers, Answered, to_word, to-text}
+use Rattle.spell.specs.Spelled.{all_on, is_word, word_in, unless_refused, word_text, Answers, Answered, IsPrefixLen, to_word, to-text}
 use Rattle.spell.proofs.Answers.{not-refused, valid, reads_word, print_wrote, print-refused, print-short}
 use Rattle.spell.proofs.Digits.{says-word}
 

@@ -1,6 +1,6 @@
 -- What the program `spell` prints for a line, which is a list of bytes without its line end: "a line of eight hexadecimal digits becomes the word's text, a
 -- line of text becomes the word's eight upper-case digits, any other line becomes `refused N` (with N of the call); all features are on".
-use Rattle.std.specs.Prelude.{ℕ, zero, suc, ◌+◌, ◌*◌, ◌/◌, ◌%◌, ◌^◌, ◌≡◌, Bool, true, false, ◌&&◌, ◌||◌, cond, List, [], ◌∷◌, ◌++◌, eqb, leb, length, get_or}
+use Rattle.std.specs.Prelude.{ℕ, zero, suc, ◌+◌, ◌*◌, ◌/◌, ◌%◌, ◌^◌, ◌≡◌, ◌≤◌, Bool, true, false, ◌&&◌, ◌||◌, cond, List, [], ◌∷◌, ◌++◌, eqb, leb, length, take, get_or}
 use Prim.Native.String.{String}
 use Rattle.pieces.specs.Pieces.{text, decimal, hex8, Wrote}
 use Rattle.settings.specs.declared.Settings.{Settings}
@@ -66,8 +66,12 @@ pub record Answered (line room room' : List ℕ) (r : ℕ) : Type 0 where
   pub answers : Answers line answer
   pub wrote : Wrote answer 0 room room' r
 
--- ---- only a contract uses this: one number for a word or for none
+-- ---- only contracts use these
 
--- the word of a line, or 2 ^ 32
+-- the first n bytes are there, and are n: the second part follows from the first, and spares a caller's `&room[..n]` a proof file
+abbrev pub IsPrefixLen : ℕ → List ℕ → Type 0
+IsPrefixLen n xs = (n ≤ length xs) × (n ≡ length (take n xs))
+
+-- one number for a word or for none: the word of a line, or 2 ^ 32
 unfoldable pub word_in : List ℕ → ℕ
 word_in line = cond (is_word line) (word_of line) (2 ^ 32)

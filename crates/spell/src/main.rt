@@ -1,16 +1,16 @@
 // For people: a line of eight hexadecimal digits becomes the text of the word, and a line of text becomes the word.
 #![tactic(auto)]
 
-ghost use Rattle.std.specs.Prelude.{◌≡◌, false, ◌++◌, ◌+◌, ◌≤◌, ◌<◌, length};
-ghost use Rattle.io.specs.Counts.{IsPrefixLen};
+ghost use Rattle.std.specs.Prelude.{◌≡◌, false, ◌++◌, ◌+◌, ◌≤◌, ◌<◌, length, IfOk};
 ghost use Rattle.pieces.specs.Pieces.{text, Wrote};
 ghost use Rattle.words.specs.Decode.{decode_paper};
 ghost use Rattle.spelling.specs.Spell.{longest_text};
-ghost use Rattle.spell.specs.Spelled.{all_on, is_hex_digit, digit_of, is_word, word_in, word_text, Answered};
+ghost use Rattle.spell.specs.Spelled.{all_on, is_hex_digit, digit_of, is_word, word_in, word_text, Answered, IsPrefixLen};
 
-use libc::{STDIN_FILENO, STDOUT_FILENO};
 use settings::{Features, Modes, Settings};
 use spelling::Printed;
+use std::io;
+use std::io::Read;
 
 fn all_on() -> Settings
     ensures { result ≡ all_on }
@@ -123,56 +123,56 @@ fn put_answer(out: &mut [u8], line: &[u8]) -> usize
 const KEPT: usize = 64;
 
 // Writes the answer to a line. Each answer is written at once, for whoever types a line and waits.
-fn answer(line: &[u8]) {
+fn answer(rt: &impl Print, line: &[u8]) -> io::Result<()> {
     let mut out = room();
     let length = put_answer(&mut out, line);
-    io::write_all(STDOUT_FILENO, &out[..length]);
+    rt.write_all(&out[..length])
 }
 
 // Answers the lines that end in a piece of the input, and tells how many bytes of the next line are kept: no more than `line` has room for.
-fn take_piece(piece: &[u8], line: &mut [u8], before: usize) -> usize
+fn take_piece(rt: &impl Print, piece: &[u8], line: &mut [u8], before: usize) -> io::Result<usize>
     requires { before ≤ length line.old }
-    ensures { result ≤ length line.new }
+    ensures { IfOk result (λ kept. kept ≤ length line.new) }
 {
     let mut kept = before;
-    let mut i = 0;
-    while i < piece.len() {
-        let byte = piece[i];
-        i += 1;
-        if byte == b'\n' {
-            answer(&line[..kept]);
+    for byte in piece {
+        if *byte == b'\n' {
+            answer(rt, &line[..kept])?;
             kept = 0;
         } else if kept < line.len() {
-            line[kept] = byte;
+            line[kept] = *byte;
             kept += 1;
         }
     }
-    kept
+    Ok(kept)
 }
 
-fn read_some(input: &mut [u8]) -> usize
+// A read that fails is the input's end.
+fn read_some(from: &mut impl Read, input: &mut [u8]) -> usize
     ensures { IsPrefixLen result input.new }
 {
-    let got = libc::read(STDIN_FILENO, input);
-    io::count(got, input)
+    from.read(input).unwrap_or(0)
 }
 
 // Answers every line that ends, and tells how many bytes are kept of what comes after the last line's end. A proved loop has to end, and
 // nothing says that the input does: the turns are more than any run takes.
-fn take_input(input: &mut [u8], line: &mut [u8]) -> usize
-    ensures { IsPrefixLen result line.new }
+fn take_input(
+    rt: &impl Print,
+    from: &mut impl Read,
+    input: &mut [u8],
+    line: &mut [u8],
+) -> io::Result<usize>
+    ensures { IfOk result (λ kept. IsPrefixLen kept line.new) }
 {
     let mut kept = 0;
-    let mut turns = u64::MAX;
-    while turns > 0 {
-        turns -= 1;
-        let got = read_some(input);
+    for _ in 0..u64::MAX {
+        let got = read_some(from, input);
         if got == 0 {
             break;
         }
-        kept = take_piece(&input[..got], line, kept);
+        kept = take_piece(rt, &input[..got], line, kept)?;
     }
-    kept
+    Ok(kept)
 }
 
 // Room for more than the longest text: of a longer line these bytes decide the answer (`enough-kept`).
@@ -182,11 +182,21 @@ fn line_room() -> [u8; KEPT]
     [0; KEPT]
 }
 
-fn main() {
-    let mut input = io::large_buffer();
+// Room for much input at once: a loop over small pieces would spend its time on calls.
+const INPUT: usize = 65536;
+
+fn input_room() -> [u8; INPUT]
+    ensures { 65536 ≡ length result }
+{
+    [0; INPUT]
+}
+
+fn main(rt: HostRuntime) -> io::Result<()> {
+    let mut input = input_room();
     let mut line = line_room();
-    let kept = take_input(&mut input, &mut line);
+    let kept = take_input(&rt, &mut rt.stdin(), &mut input, &mut line)?;
     if kept > 0 {
-        answer(&line[..kept]);
+        answer(&rt, &line[..kept])?;
     }
+    Ok(())
 }

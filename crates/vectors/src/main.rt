@@ -2,11 +2,13 @@
 // LLVM's answers are on standard input, made by tests/llvm/make_vectors.py, whose header has the line's columns.
 #![tactic(auto)]
 
-ghost use Rattle.std.specs.Prelude.{◌<◌, ◌≤◌, length};
+ghost use Rattle.std.specs.Prelude.{◌≡◌, ◌<◌, ◌≤◌, length, take};
 
 use encoding::Encoded;
 use settings::{Features, Modes, Settings};
 use spelling::{Printed, WordRead};
+use std::io;
+use std::io::Read;
 use words::{Decoded, Fields, Partnered};
 
 const ALL_FEATURES: u32 = 31;
@@ -357,7 +359,7 @@ fn described_in(line: &[u8]) -> usize
 }
 
 // Names the word by the line's own digits.
-fn print_wrong(line: &[u8]) {
+fn print_wrong(rt: &impl Print, line: &[u8]) -> io::Result<()> {
     let digits = [
         byte_at(line, 0),
         byte_at(line, 1),
@@ -368,49 +370,59 @@ fn print_wrong(line: &[u8]) {
         byte_at(line, 6),
         byte_at(line, 7),
     ];
-    io::write_all(1, b"wrong ");
-    io::write_all(1, &digits);
-    io::write_all(1, b"\n");
+    rt.write_all(b"wrong ")?;
+    rt.write_all(&digits)?;
+    rt.write_all(b"\n")
 }
 
-// Names the line's word where a check fails, and answers how many words are wrong: 0 or 1.
+// How many words of this line are wrong: 0 or 1.
 fn wrong_in(line: &[u8]) -> usize
     ensures { result < 2 }
 {
-    if is_right(line) {
-        return 0;
-    }
-    print_wrong(line);
-    1
+    if is_right(line) { 0 } else { 1 }
 }
 
-fn print_counts(words: usize, described: usize, wrong: usize)
+fn print_counts(rt: &impl Print, words: usize, described: usize, wrong: usize) -> io::Result<()>
     requires { described ≤ words }
 {
-    io::print_decimal(1, words as u64);
-    io::write_all(1, b" words: ");
-    io::print_decimal(1, described as u64);
-    io::write_all(1, b" described, ");
-    io::print_decimal(1, (words - described) as u64);
-    io::write_all(1, b" refused, ");
-    io::print_decimal(1, wrong as u64);
-    io::write_all(1, b" wrong\n");
+    let refused = words - described;
+    println!(rt; "{words} words: {described} described, {refused} refused, {wrong} wrong")
 }
 
 // Checks each line, and then says how many words there were.
-fn check_list(list: &[u8]) {
+fn check_list(rt: &impl Print, list: &[u8]) -> io::Result<()> {
     let mut at = 0;
     let mut words = 0;
     let mut described = 0;
     let mut wrong = 0;
     while at < list.len() {
         let next = place_after(list, at, b'\n');
-        described += described_in(&list[at..next]);
-        wrong += wrong_in(&list[at..next]);
+        let line = &list[at..next];
+        described += described_in(line);
+        let found = wrong_in(line);
+        if found > 0 {
+            print_wrong(rt, line)?;
+        }
+        wrong += found;
         words += 1;
         at = next;
     }
-    print_counts(words, described, wrong);
+    print_counts(rt, words, described, wrong)
+}
+
+// Reads until the room is full, the input ends or a read fails, and tells how many bytes it put at the room's start.
+fn read_full(from: &mut impl Read, room: &mut [u8]) -> usize
+    ensures { (result ≤ length room.new) × (result ≡ length (take result room.new)) }
+{
+    let mut done = 0;
+    while done < room.len() {
+        let got = from.read(&mut room[done..]).unwrap_or(0);
+        if got == 0 {
+            break;
+        }
+        done += got;
+    }
+    done
 }
 
 // Larger than the file. A longer file would be cut short, and the count of words would show it.
@@ -421,8 +433,8 @@ fn input_room() -> [u8; INPUT] {
     [0u8; INPUT]
 }
 
-fn main() {
+fn main(rt: HostRuntime) -> io::Result<()> {
     let mut input = input_room();
-    let got = io::read_full(0, &mut input);
-    check_list(&input[..got]);
+    let got = read_full(&mut rt.stdin(), &mut input);
+    check_list(&rt, &input[..got])
 }
