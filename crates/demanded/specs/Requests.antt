@@ -38,7 +38,7 @@ pub record RequestOne : Type 0 where
   pub one_as_long : OneAsLong
 
 -- Two. "A rising bit and a falling bit cost different charge". That toggled, their sum, is what it was stands in Demand2, that a partner's rises are
--- its word's falls in Demand3, the report's four numbers in Demand2 (`list-runs`), and 4n in Demand1 (`list-in-order`)
+-- its word's falls in Demand3, the report's four numbers in Demand2 (`list_runs`), and 4n in Demand1 (`list_in_order`)
 pub record RequestTwo : Type 0 where
   -- "The bit count at the bottom is to give two numbers": the bits that were 0 and are 1, and those that were 1 and are 0
   pub each_counted : Always CountsEach
@@ -54,7 +54,7 @@ pub record RequestTwo : Type 0 where
   pub bits_are : BitsAre
 
 -- Three. "writing a V register sets the rest of the Z register to zero. Families A and B now do this. Their written count becomes VL" stands in Demand2
--- (`v-cleared`, `written-exact`), and the premise that demand 3 gains in Demand3 (`sweep-closes`, `callers-see`, `premises-needed`)
+-- (`v_cleared`, `written_exact`), and the premise that demand 3 gains in Demand3 (`sweep-closes`, `callers_see`, `premises_needed`)
 pub record RequestThree : Type 0 where
   -- "cleared bits count as falls": each 1 above the V register, beside what rises and falls in it
   pub cleared_fall : WheneverV CountsCleared

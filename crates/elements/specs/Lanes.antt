@@ -31,6 +31,6 @@ chosen lane c e = c.by * cond c.segmented (segment_start lane e) e + c.from
 abbrev pub chosen_at : ℕ → Choice → ℕ → ℕ
 chosen_at lane c e = chosen lane c e * (lane / 8)
 
--- the lanes of the first n elements lie in w bytes: that of the last does, and `chosen-inside` (proofs/Lanes.antt) says the same of each
+-- the lanes of the first n elements lie in w bytes: that of the last does, and `chosen_inside` (proofs/Lanes.antt) says the same of each
 abbrev pub Reaches : ℕ → Choice → ℕ → ℕ → Type 0
 Reaches lane c n w = chosen_at lane c (n - 1) + lane / 8 ≤ w

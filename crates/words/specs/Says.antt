@@ -165,7 +165,7 @@ says_first (r ∷ rs) w = cond (matches r.layout w) (says_of r w) (says_first rs
 unfoldable pub describe : ℕ → Described
 describe w = says_first table w
 
--- the same with no order of the rows: a listed row matches, its size is not reserved, and it says f (`described-exactly` in proofs/Table.antt)
+-- the same with no order of the rows: a listed row matches, its size is not reserved, and it says f (`described_exactly` in proofs/Table.antt)
 pub record SaidBy (rs : List Row) (w : ℕ) (f : Fields) : Type 0 where
   pub row : Row
   pub listed : Memᴰ row rs
