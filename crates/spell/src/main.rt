@@ -130,9 +130,11 @@ fn answer(rt: &impl Print, line: &[u8]) -> io::Result<()> {
 }
 
 // Answers the lines that end in a piece of the input, and tells how many bytes of the next line are kept: no more than `line` has room for.
+// Where an answer can't be written that error comes back, and `line` has any bytes.
 fn take_piece(rt: &impl Print, piece: &[u8], line: &mut [u8], before: usize) -> io::Result<usize>
     requires { before ≤ length line.old }
-    ensures { IfOk result (λ kept. kept ≤ length line.new) }
+    ensures kept { IfOk result (λ kept. kept ≤ length line.new) }
+    ensures same_room { length line.new ≡ length line.old }
 {
     let mut kept = before;
     for byte in piece {
@@ -162,7 +164,8 @@ fn take_input(
     input: &mut [u8],
     line: &mut [u8],
 ) -> io::Result<usize>
-    ensures { IfOk result (λ kept. IsPrefixLen kept line.new) }
+    ensures kept { IfOk result (λ kept. IsPrefixLen kept line.new) }
+    ensures same_room { length line.new ≡ length line.old }
 {
     let mut kept = 0;
     for _ in 0..u64::MAX {
