@@ -8,7 +8,7 @@ use lib.ListN.{length}
 use Rattle.elements.specs.Files.{vector_at, replaced}
 use Rattle.elements.proofs.Files.{Placed, Distinct, fewer, fit_in, length-replaced, replaced_out}
 use Rattle.bits.specs.Bits.{over_bytes}
-use Rattle.bits.proofs.Bits.{Unmoved, Once, bytes_same, bytes-splice_add, bytes-splice_le}
+use Rattle.bits.proofs.Bits.{Unmoved, Once, bytes_same, bytes_splice_add, bytes_splice_le}
 
 module _ (f : ℕ → ℕ → ℕ) (same : Unmoved f) (place : ℕ → ℕ) (new : ℕ → List ℕ) (w n : ℕ) (s : List ℕ) where
   abbrev R : ℕ → List ℕ
@@ -22,21 +22,21 @@ module _ (f : ℕ → ℕ → ℕ) (same : Unmoved f) (place : ℕ → ℕ) (new
   bytes-replaced count P apart =
       let P' = fewer place new w n s count P in
       let last : count < suc count = le_refl (suc count) in
-      bytes-splice_add f same (place count * w) (new count) s (R count) (length-replaced place new w n s count P')
+      bytes_splice_add f same (place count * w) (new count) s (R count) (length-replaced place new w n s count P')
       (fit_in place new w n s count P)
       (rw (P.wide count last)
       (replaced_out place new w n s count (place count) P'
       (λ q h (e : place q ≡ place count). let one = apart q count (omega arith) last e in omega arith)))
 
-  pub bytes-replaced_le : Once f → (count : ℕ) → Placed place new w n count s → Distinct place count
+  pub bytes_replaced_le : Once f → (count : ℕ) → Placed place new w n count s → Distinct place count
       → over_bytes f s (replaced place new w count s) ≤ count * (8 * w)
   unfolding replaced
-  bytes-replaced_le once zero P apart = rw (bytes_same f same s) (omega arith)
-  bytes-replaced_le once (suc count) P apart =
+  bytes_replaced_le once zero P apart = rw (bytes_same f same s) (omega arith)
+  bytes_replaced_le once (suc count) P apart =
       let P' = fewer place new w n s count P in
       let wide = P.wide count (le_refl (suc count)) in
       let fit : place count * w + length (new count) ≤ length (R count) = rw (length-replaced place new w n s count P') (fit_in place new w n s count P) in
       let sum = bytes-replaced count P apart in
-      let one = bytes-splice_le f once same (place count * w) (new count) (R count) fit in
-      let rest = bytes-replaced_le once count P' (λ p q hp hq e. apart p q (omega arith) (omega arith) e) in
+      let one = bytes_splice_le f once same (place count * w) (new count) (R count) fit in
+      let rest = bytes_replaced_le once count P' (λ p q hp hq e. apart p q (omega arith) (omega arith) e) in
       omega (arith, suc-mul count (8 * w))

@@ -8,13 +8,13 @@ use lib.ListN.{length, get_or, take, drop, length-append}
 use lib.Arith.{digits_div, digits_mod}
 use lib.Bits.{differ}
 use Rattle.elements.specs.Elements.{element_at, element, put_at, splice}
-use Rattle.elements.proofs.Elements.{Bytes, pow256, element_at_lt, element_at-same, element_at-put-after, length-put, put-after}
-use Rattle.elements.proofs.Vectors.{put_each, put_each_turn, put_each-after, put_each-splice, length-put_each, vector-own}
-use Rattle.elements.proofs.Files.{length-splice, drop-splice, splice-behind}
+use Rattle.elements.proofs.Elements.{Bytes, pow256, element_at_lt, element_at_same, element_at_put_after, length_put, put_after}
+use Rattle.elements.proofs.Vectors.{put_each, put_each_turn, put_each_after, put_each-splice, length-put_each, vector_own}
+use Rattle.elements.proofs.Files.{length-splice, drop-splice, splice_behind}
 use Rattle.bits.specs.Bits.{over_bits, over_bytes, rose, fell, rises, falls}
 use Rattle.bits.specs.Replace.{Replaced}
 use Rattle.bits.specs.declared.Toggles.{Toggles}
-use Rattle.bits.proofs.Bits.{Unmoved, differ_unmoved, rose_unmoved, fell_unmoved, differ_once, bits-split, bits_mod, bits-same, bytes_same, bytes-set, bytes-splice_add, bytes-splice_le, toggled-differs}
+use Rattle.bits.proofs.Bits.{Unmoved, differ_unmoved, rose_unmoved, fell_unmoved, differ_once, bits_split, bits_mod, bits_same, bytes_same, bytes-set, bytes_splice_add, bytes_splice_le, toggled_differs}
 
 module _ (f : ℕ → ℕ → ℕ) where
   -- the bits of one byte more
@@ -22,23 +22,23 @@ module _ (f : ℕ → ℕ → ℕ) where
       → over_bits f (8 * suc k) (lo + g * 256 ^ k) v ≡ over_bits f (8 * k) lo v + over_bits f 8 g (v / 256 ^ k % 256)
   bits_byte k lo g v hl hg =
       let hl' : lo < 2 ^ (8 * k) = rw (← pow256 k) hl in
-      rw (mul-suc 8 k, pow256 k, add_comm lo, bits-split f (8 * k) 8, digits_div g hl')
+      rw (mul-suc 8 k, pow256 k, add_comm lo, bits_split f (8 * k) 8, digits_div g hl')
       (ap₂ ◌+◌
       (sym (bits_mod f (8 * k) (g * 2 ^ (8 * k) + lo) v) ∙ ap (λ (x : ℕ). over_bits f (8 * k) x (v % 2 ^ (8 * k))) (digits_mod g hl' ∙ sym (mod-eq_of_lt hl')) ∙ bits_mod f (8 * k) lo v)
       (sym (bits_mod f 8 g (v / 2 ^ (8 * k))) ∙ rw (mod-eq_of_lt hg)))
 
   -- an element is written where the two lists agreed so far
-  bytes-put : Unmoved f → (k at v : ℕ) (s t : List ℕ) → length s ≡ length t → Bytes s → at + k ≤ length t
+  bytes_put : Unmoved f → (k at v : ℕ) (s t : List ℕ) → length s ≡ length t → Bytes s → at + k ≤ length t
       → ((i : ℕ) → i < k → get_or t (at + i) 0 ≡ get_or s (at + i) 0)
       → over_bytes f s (put_at k at v t) ≡ over_bytes f s t + over_bits f (8 * k) (element_at k at s) v
   unfolding put_at element_at over_bits
-  bytes-put same zero at v s t e b r ag = sym (add-zero _)
-  bytes-put same (suc k) at v s t e b r ag =
+  bytes_put same zero at v s t e b r ag = sym (add-zero _)
+  bytes_put same (suc k) at v s t e b r ag =
       let u : List ℕ = put_at k at v t in
       let z : over_bits f 8 (get_or s (at + k) 0) (get_or u (at + k) 0) ≡ 0 =
-      rw (put-after at v t k (at + k) (le_refl _), ag k (le_refl _)) (bits-same f same 8 _) in
-      bytes-set f s u (at + k) (v / 256 ^ k % 256) (rw length-put e) (rw length-put (omega arith)) z
-      ∙ rw (bytes-put same k at v s t e b (omega arith) (λ i q. ag i (omega arith)), bits_byte k (element_at k at s) (get_or s (at + k) 0) v (element_at_lt k at s b) (b (at + k))) (add_assoc _ _ _)
+      rw (put_after at v t k (at + k) (le_refl _), ag k (le_refl _)) (bits_same f same 8 _) in
+      bytes-set f s u (at + k) (v / 256 ^ k % 256) (rw length_put e) (rw length_put (omega arith)) z
+      ∙ rw (bytes_put same k at v s t e b (omega arith) (λ i q. ag i (omega arith)), bits_byte k (element_at k at s) (get_or s (at + k) 0) v (element_at_lt k at s b) (b (at + k))) (add_assoc _ _ _)
 
 -- ---- replace
 
@@ -54,7 +54,7 @@ pub record Turned (file₀ new : List ℕ) (at i before after : ℕ) (file file'
 
 -- what is not written yet stands as it was
 pub untouched : (file₀ new : List ℕ) (at i : ℕ) (file : List ℕ) → Upto file₀ new at i file → (j : ℕ) → get_or file (at + i + j) 0 ≡ get_or file₀ (at + i + j) 0
-untouched file₀ new at i file up j = rw up (put_each-after (element 8 new) 8 at file₀ (i / 8) (at + i + j) (omega arith))
+untouched file₀ new at i file up j = rw up (put_each_after (element 8 new) 8 at file₀ (i / 8) (at + i + j) (omega arith))
 
 module _ (file₀ new : List ℕ) (at : ℕ) (fit : at + length new ≤ length file₀) (eights : length new % 8 ≡ 0) where
   -- one turn, from what its calls ensure
@@ -66,13 +66,13 @@ module _ (file₀ new : List ℕ) (at : ℕ) (fit : at + length new ≤ length f
       let ie : i ≡ e * 8 = omega arith in
       let long : length file ≡ length file₀ = rw up (length-put_each (element 8 new) 8 at file₀ e) in
       let agree : (j : ℕ) → j < 8 → get_or file (at + i + j) 0 ≡ get_or file₀ (at + i + j) 0 = λ j _. untouched file₀ new at i file up j in
-      let old : before ≡ element_at 8 (at + i) file₀ = eb ∙ element_at-same 8 (at + i) (at + i) file file₀ agree in
+      let old : before ≡ element_at 8 (at + i) file₀ = eb ∙ element_at_same 8 (at + i) (at + i) file file₀ agree in
       record {
         upto =
             let q : (i + 8) / 8 ≡ e + 1 = omega arith in
             rw q (put_each_turn (element 8 new) 8 at e (at + i) after file₀ file file' (omega arith) (ea ∙ ap (λ (x : ℕ). element_at 8 x new) ie) up ef);
-        counts = λ f same. rw (ef, old) (sym (bytes-put f same 8 (at + i) after file₀ file (sym long) by (omega arith) agree));
-        long = rw ef (length-put (at + i) after file 8) ∙ long;
+        counts = λ f same. rw (ef, old) (sym (bytes_put f same 8 (at + i) after file₀ file (sym long) by (omega arith) agree));
+        long = rw ef (length_put (at + i) after file 8) ∙ long;
       }
 
   -- the loop's end
@@ -81,12 +81,12 @@ module _ (file₀ new : List ℕ) (at : ℕ) (fit : at + length new ≤ length f
   all i u d file by hi l m up eu ed =
       let e : ℕ = i / 8 in
       let long : length new ≡ e * 8 = omega arith in
-      let after : file ≡ splice at new file₀ = up ∙ put_each-splice (element 8 new) 8 at e file₀ (omega arith) ∙ rw (vector-own 8 e new by long) in
+      let after : file ≡ splice at new file₀ = up ∙ put_each-splice (element 8 new) 8 at e file₀ (omega arith) ∙ rw (vector_own 8 e new by long) in
       record {
         after = after;
         bits = ap₂ {A = ℕ} {B = ℕ} {C = Toggles} (λ r f. record { rises = r; falls = f }) eu ed;
         few =
-            omega (arith, eu, ed, toggled-differs file₀ file, ap (over_bytes differ file₀) after, bytes-splice_le differ differ_once differ_unmoved at new file₀ fit);
+            omega (arith, eu, ed, toggled_differs file₀ file, ap (over_bytes differ file₀) after, bytes_splice_le differ differ_once differ_unmoved at new file₀ fit);
       }
 
 -- ---- two words
@@ -105,7 +105,7 @@ both file₀ new at fit long by by' before before' after after' r d file file' e
     let T =
     turn file₀ new at room eights 0 before after file₀ file by refl (omega arith) refl (eb ∙ ap (λ (k : ℕ). element_at 8 k file₀) none) ea
     (ef ∙ ap (λ (k : ℕ). put_at 8 k after file₀) none) in
-    let kept : before' ≡ element_at 8 (at + 8) file = eb' ∙ sym (ap (element_at 8 (at + 8)) ef ∙ element_at-put-after at after file₀ 8 8 (at + 8) (omega arith)) in
+    let kept : before' ≡ element_at 8 (at + 8) file = eb' ∙ sym (ap (element_at 8 (at + 8)) ef ∙ element_at_put_after at after file₀ 8 8 (at + 8) (omega arith)) in
     let R = turn file₀ new at room eights 8 before' after' file file' by refl (omega arith) T.upto kept ea' ef' in
     let counts : (f : ℕ → ℕ → ℕ) → Unmoved f → over_bits f 64 before after + over_bits f 64 before' after' ≡ over_bytes f file₀ file' =
     λ f same. omega (arith, bytes_same f same file₀, T.counts f same, R.counts f same) in
@@ -123,9 +123,9 @@ behind at t u x y s s' s'' fit p q =
     let agree : take (length y) (drop (at + length x) s') ≡ take (length y) (drop (at + length x) s) =
     ap (λ (l : List ℕ). take (length y) (drop (at + length x) l)) p.after ∙ ap (take (length y)) (drop-splice at x s room) in
     let sum : (f : ℕ → ℕ → ℕ) → Unmoved f → over_bytes f s s' + over_bytes f s' s'' ≡ over_bytes f s s'' =
-    λ f same. rw q.after (sym (bytes-splice_add f same (at + length x) y s s' long fit agree)) in
+    λ f same. rw q.after (sym (bytes_splice_add f same (at + length x) y s s' long fit agree)) in
     record {
-      after = q.after ∙ ap (splice (at + length x) y) p.after ∙ splice-behind at x y s room;
+      after = q.after ∙ ap (splice (at + length x) y) p.after ∙ splice_behind at x y s room;
       bits =
           ap₂ {A = ℕ} {B = ℕ} {C = Toggles} (λ r f. record { rises = r; falls = f })
           (ap₂ ◌+◌ (ap (λ (b : Toggles). b.rises) p.bits) (ap (λ (b : Toggles). b.rises) q.bits) ∙ sum rose rose_unmoved)

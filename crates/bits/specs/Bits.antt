@@ -29,7 +29,7 @@ rises = over_bytes rose
 abbrev pub falls : List ℕ → List ℕ → ℕ
 falls = over_bytes fell
 
--- document 02: "toggled is their sum". They are the bits that differ (`toggled-differs`)
+-- document 02: "toggled is their sum". They are the bits that differ (`toggled_differs`)
 abbrev pub toggled : List ℕ → List ℕ → ℕ
 toggled before after = rises before after + falls before after
 

@@ -39,20 +39,20 @@ module _ (lane : ℕ) (u s : Bool) (old : ℕ) (z : List ℕ) (x dx y dy : ℕ) 
 -- ---- the lanes of words that write ZA
 
 -- what holds of each pair of widths holds of any
-pub by-array : (P : ℕ → ℕ → Type 0) → P 8 32 → P 16 64 → P 16 32 → (lane wide : ℕ) → OfArray lane wide → P lane wide
-by-array P a b c lane wide o =
+pub by_array : (P : ℕ → ℕ → Type 0) → P 8 32 → P 16 64 → P 16 32 → (lane wide : ℕ) → OfArray lane wide → P lane wide
+by_array P a b c lane wide o =
     ⊎_elim (λ (h : (lane ≡ 8) × (wide ≡ 32)). rw (h.0, h.1) a)
     (⊎_elim (λ (h : (lane ≡ 16) × (wide ≡ 64)). rw (h.0, h.1) b) (λ (h : (lane ≡ 16) × (wide ≡ 32)). rw (h.0, h.1) c))
     o
 
 pub array_widths : (lane wide : ℕ) → OfArray lane wide → Widths lane wide
-array_widths = by-array Widths (quadrupled (inl refl)) (quadrupled (inr refl)) (doubled 16 (inr (inl refl)))
+array_widths = by_array Widths (quadrupled (inl refl)) (quadrupled (inr refl)) (doubled 16 (inr (inl refl)))
 
 pub array_64 : (lane wide : ℕ) → OfArray lane wide → wide ≡ 64 → lane ≡ 16
-array_64 = by-array (λ lane wide. wide ≡ 64 → lane ≡ 16) (λ e. absurd (omega arith)) (λ e. refl) (λ e. refl)
+array_64 = by_array (λ lane wide. wide ≡ 64 → lane ≡ 16) (λ e. absurd (omega arith)) (λ e. refl) (λ e. refl)
 
 pub array_32 : (lane wide : ℕ) → OfArray lane wide → (wide ≡ 64 → ⊥) → wide ≡ 32
-array_32 = by-array (λ lane wide. (wide ≡ 64 → ⊥) → wide ≡ 32) (λ n. refl) (λ n. absurd (n refl)) (λ n. refl)
+array_32 = by_array (λ lane wide. (wide ≡ 64 → ⊥) → wide ≡ 32) (λ n. refl) (λ n. absurd (n refl)) (λ n. refl)
 
 pub array_16 : (lane wide : ℕ) → OfArray lane wide → (lane ≡ 8 → ⊥) → lane ≡ 16
-array_16 = by-array (λ lane wide. (lane ≡ 8 → ⊥) → lane ≡ 16) (λ n. absurd (n refl)) (λ n. refl) (λ n. refl)
+array_16 = by_array (λ lane wide. (lane ≡ 8 → ⊥) → lane ≡ 16) (λ n. absurd (n refl)) (λ n. refl) (λ n. refl)

@@ -7,8 +7,8 @@ use native.Mathlib.Omega.{arith}
 use lib.ListN.{length, drop}
 use Rattle.elements.specs.Elements.{element_at, put_at}
 use Rattle.elements.specs.Lanes.{IsLane, each, chosen_at}
-use Rattle.elements.proofs.Elements.{Bytes, element_at-same}
-use Rattle.elements.proofs.Lanes.{by-lane}
+use Rattle.elements.proofs.Elements.{Bytes, element_at_same}
+use Rattle.elements.proofs.Lanes.{by_lane}
 use Rattle.elements.proofs.Vectors.{put_each, put_each_turn, put_each_end}
 use Rattle.lanes.specs.Lane.{lane_step, step}
 use Rattle.lanes.specs.Widths.{IsWidth}
@@ -16,9 +16,9 @@ use Rattle.bits.specs.Bits.{rises, falls}
 use Rattle.bits.specs.Replace.{Replaced}
 use Rattle.bits.proofs.Put.{Upto, Turned, untouched, turn, all}
 use Rattle.lanes.specs.Element.{new_element, new_bytes}
-use Rattle.lanes.proofs.Built.{new_element-at, length-new, Bytes-new_bytes}
+use Rattle.lanes.proofs.Built.{new_element-at, length_new, Bytes-new_bytes}
 use Rattle.chunks.specs.Chunk.{evenly, even_bytes, chunk, OfArray}
-use Rattle.chunks.proofs.Parts.{by-array}
+use Rattle.chunks.proofs.Parts.{by_array}
 use Rattle.chunks.proofs.Strides.{chunk-at}
 
 module _ (lane wide : ℕ) (iw : IsWidth wide) (u s : Bool) (old : List ℕ) (at : ℕ) (z : List ℕ) (x sx dx y sy dy bytes : ℕ) (edx : dx ≡ sx * (lane / 8))
@@ -27,7 +27,7 @@ module _ (lane wide : ℕ) (iw : IsWidth wide) (u s : Bool) (old : List ℕ) (at
   New = even_bytes lane wide u s old at z x sx y sy bytes
 
   long : length New ≡ bytes
-  long = length-new (evenly lane wide u s sx sy) bytes (drop at old) (drop x z) (drop y z) iw eights
+  long = length_new (evenly lane wide u s sx sy) bytes (drop at old) (drop x z) (drop y z) iw eights
 
   -- one turn, from what its calls ensure
   pub turned : (o before after px py : ℕ) (file file' : List ℕ) → o % 8 ≡ 0 → o < bytes → Upto old New at o file
@@ -38,7 +38,7 @@ module _ (lane wide : ℕ) (iw : IsWidth wide) (u s : Bool) (old : List ℕ) (at
       let c : ℕ = o / 8 in
       let oc : 8 * c ≡ o = omega arith in
       let own : before ≡ element_at 8 (at + 8 * c) old =
-      eb ∙ element_at-same 8 (at + o) (at + o) file old (λ j _. untouched old New at o file up j) ∙ ap (λ (k : ℕ). element_at 8 (at + k) old) (sym oc) in
+      eb ∙ element_at_same 8 (at + o) (at + o) file old (λ j _. untouched old New at o file up j) ∙ ap (λ (k : ℕ). element_at 8 (at + k) old) (sym oc) in
       let new : after ≡ element_at 8 o New =
       ea
       ∙ chunk-at lane wide iw u s old at z x sx dx y sy dy edx edy by c bytes before px py (omega arith) own ex ey
@@ -66,20 +66,20 @@ module _ (u s : Bool) (z : List ℕ) (at x y sy : ℕ) where
       put_each_turn Own 2 0 e o r new out out' eo (rw (new_element-at (evenly 8 16 u s 1 sy) z at z x y e, ← ea, ← ex, ← ey) er) ew ep
 
   -- eight are the 16 bytes
-  pub all-put : (e : ℕ) (new out : List ℕ) → e ≤ 8 → 8 ≤ e → length new ≡ 16 → out ≡ put_each Own 2 0 e new → out ≡ even_bytes 8 16 u s z at z x 1 y sy 16
+  pub all_put : (e : ℕ) (new out : List ℕ) → e ≤ 8 → 8 ≤ e → length new ≡ 16 → out ≡ put_each Own 2 0 e new → out ≡ even_bytes 8 16 u s z at z x 1 y sy 16
   unfolding new_bytes
-  all-put e new out l m long ew = put_each_end Own 2 e 8 new out l m long ew
+  all_put e new out l m long ew = put_each_end Own 2 e 8 new out l m long ew
 
 -- ---- the lanes of words that write ZA
 
 -- a source has for each element as many bytes as the element has
-pub array-step : (lane wide : ℕ) → OfArray lane wide → wide / 8 ≡ wide / lane * (lane / 8)
-array-step = by-array (λ lane wide. wide / 8 ≡ wide / lane * (lane / 8)) refl refl refl
+pub array_step : (lane wide : ℕ) → OfArray lane wide → wide / 8 ≡ wide / lane * (lane / 8)
+array_step = by_array (λ lane wide. wide / 8 ≡ wide / lane * (lane / 8)) refl refl refl
 
 -- the chunk o bytes on begins at the same distance in a source
-pub array-place : (lane wide : ℕ) → OfArray lane wide → (x o : ℕ) → o % 8 ≡ 0 → x + o ≡ x + chosen_at lane (each (wide / lane) 0) (o / 8 * (64 / wide))
-array-place =
-    by-array (λ lane wide. (x o : ℕ) → o % 8 ≡ 0 → x + o ≡ x + chosen_at lane (each (wide / lane) 0) (o / 8 * (64 / wide)))
+pub array_place : (lane wide : ℕ) → OfArray lane wide → (x o : ℕ) → o % 8 ≡ 0 → x + o ≡ x + chosen_at lane (each (wide / lane) 0) (o / 8 * (64 / wide))
+array_place =
+    by_array (λ lane wide. (x o : ℕ) → o % 8 ≡ 0 → x + o ≡ x + chosen_at lane (each (wide / lane) 0) (o / 8 * (64 / wide)))
     (λ x o h. omega arith)
     (λ x o h. omega arith)
     (λ x o h. omega arith)
@@ -87,6 +87,6 @@ array-place =
 -- ---- the lanes of words that write a V register
 
 -- the second chunk's begin 4·sx bytes on
-pub v-place : (lane : ℕ) → IsLane lane → (x sx : ℕ) → x + 4 * sx ≡ x + chosen_at lane (each sx 0) (1 * (64 / (2 * lane)))
-v-place lane l x sx =
-    by-lane (λ n. x + 4 * sx ≡ x + chosen_at n (each sx 0) (1 * (64 / (2 * n)))) (omega arith) (omega arith) (omega arith) lane l
+pub v_place : (lane : ℕ) → IsLane lane → (x sx : ℕ) → x + 4 * sx ≡ x + chosen_at lane (each sx 0) (1 * (64 / (2 * lane)))
+v_place lane l x sx =
+    by_lane (λ n. x + 4 * sx ≡ x + chosen_at n (each sx 0) (1 * (64 / (2 * n)))) (omega arith) (omega arith) (omega arith) lane l

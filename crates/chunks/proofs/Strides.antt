@@ -10,7 +10,7 @@ use lib.ListN.{length, drop}
 use Rattle.elements.specs.Lanes.{IsLane, each, chosen_at}
 use Rattle.elements.specs.Elements.{element_at}
 use Rattle.elements.proofs.Elements.{Bytes}
-use Rattle.elements.proofs.Lanes.{chosen_inside, chosen-from, chosen-step}
+use Rattle.elements.proofs.Lanes.{chosen_inside, chosen-from, chosen_step}
 use Rattle.elements.proofs.Vectors.{vector_cong}
 use Rattle.lanes.specs.Lane.{step}
 use Rattle.lanes.specs.Widths.{IsWidth}
@@ -28,9 +28,9 @@ module _ (lane wide : ℕ) (u s : Bool) (sx i sy j : ℕ) (old : List ℕ) (at :
   abbrev pub evenly_from : Recipe
   evenly_from = recipe false u s lane wide (each sx i) (each sy j)
 
-  even-element : (x y e : ℕ) → x ≡ n + i * (lane / 8) → y ≡ m + j * (lane / 8)
+  even_element : (x y e : ℕ) → x ≡ n + i * (lane / 8) → y ≡ m + j * (lane / 8)
       → new_element (evenly lane wide u s sx sy) (drop at old) (drop x z) (drop y z) e ≡ new_element evenly_from (drop at old) (drop n z) (drop m z) e
-  even-element x y e ex ey =
+  even_element x y e ex ey =
       let fx : x + chosen_at lane (each sx 0) e ≡ n + chosen_at lane (each sx i) e = omega (arith, chosen-from lane sx i e) in
       let fy : y + chosen_at lane (each sy 0) e ≡ m + chosen_at lane (each sy j) e = omega (arith, chosen-from lane sy j e) in
       rw (new_element-at (evenly lane wide u s sx sy) old at z x y e, new_element-at evenly_from old at z n m e, fx, fy)
@@ -38,7 +38,7 @@ module _ (lane wide : ℕ) (u s : Bool) (sx i sy j : ℕ) (old : List ℕ) (at :
   pub even_bytes_lem : (x y bytes : ℕ) → x ≡ n + i * (lane / 8) → y ≡ m + j * (lane / 8)
       → even_bytes lane wide u s old at z x sx y sy bytes ≡ new_bytes evenly_from bytes (drop at old) (drop n z) (drop m z)
   unfolding new_bytes
-  even_bytes_lem x y bytes ex ey = vector_cong _ _ (wide / 8) (8 * bytes / wide) (λ e h. even-element x y e ex ey)
+  even_bytes_lem x y bytes ex ey = vector_cong _ _ (wide / 8) (8 * bytes / wide) (λ e h. even_element x y e ex ey)
 
 -- ---- its chunks
 
@@ -57,7 +57,7 @@ pub chunk_reach : (lane wide : ℕ) → IsLane lane → IsWidth wide → (z : Li
 chunk_reach lane wide l iw z x sx dx bytes c px ed ep h r =
     let last : 64 / wide - 1 < 64 / wide = by_width (λ n. 64 / n - 1 < 64 / n) (lit< tt) (lit< tt) (lit< tt) (lit< tt) wide iw in
     let inside = chosen_inside lane l (each sx 0) (8 * bytes / wide) (length z - x) (omega arith) _ (among wide iw c (64 / wide - 1) bytes h last) in
-    rw ed (omega (arith, inside, chosen-step lane sx (c * (64 / wide)) (64 / wide - 1)))
+    rw ed (omega (arith, inside, chosen_step lane sx (c * (64 / wide)) (64 / wide - 1)))
 
 -- sx lanes are dx bytes, and sy are dy
 module _ (lane wide : ℕ) (iw : IsWidth wide) (u s : Bool) (old : List ℕ) (at : ℕ) (z : List ℕ) (x sx dx y sy dy : ℕ) (edx : dx ≡ sx * (lane / 8))
@@ -85,8 +85,8 @@ module _ (lane wide : ℕ) (iw : IsWidth wide) (u s : Bool) (old : List ℕ) (at
       let q : at + (c * per + j) * w ≡ at + 8 * c + j * w = omega arith in
       let own : before / 256 ^ (j * w) % 256 ^ w ≡ element_at w (at + (c * per + j) * w) old =
       rw (q, eb) (rw (eight wide iw) at (element_of_lem w per j (at + 8 * c) old by h)) in
-      let fx : px + j * dx ≡ x + chosen_at lane (each sx 0) (c * per + j) = rw (ex, edx) (omega (arith, chosen-step lane sx (c * per) j)) in
-      let fy : py + j * dy ≡ y + chosen_at lane (each sy 0) (c * per + j) = rw (ey, edy) (omega (arith, chosen-step lane sy (c * per) j)) in
+      let fx : px + j * dx ≡ x + chosen_at lane (each sx 0) (c * per + j) = rw (ex, edx) (omega (arith, chosen_step lane sx (c * per) j)) in
+      let fy : py + j * dy ≡ y + chosen_at lane (each sy 0) (c * per + j) = rw (ey, edy) (omega (arith, chosen_step lane sy (c * per) j)) in
       rw (new_element-at R old at z x y (c * per + j), own, fx, fy)
 
   -- chunk c of the vector

@@ -14,8 +14,8 @@ use Rattle.words.specs.Decode.{enables, enabled_only, no_fields, decode_enabled,
 use Rattle.words.specs.Partner.{partner_paper}
 use Rattle.words.specs.declared.Fields.{Fields}
 use Rattle.words.proofs.Table.{described_exactly}
-use Rattle.words.proofs.Answers.{decodes_when, partner-not_valid}
-use Rattle.encoding.specs.Encode.{Encodes, bad-settings, no_word, not_enabled}
+use Rattle.words.proofs.Answers.{decodes_when, partner_not_valid}
+use Rattle.encoding.specs.Encode.{Encodes, bad_settings, no_word, not_enabled}
 use Rattle.encoding.proofs.Theorems.{encodes_unique}
 use Rattle.machine.specs.Execute.{Outcome}
 use Rattle.numbers.specs.declared.Read.{Read}
@@ -24,7 +24,7 @@ use Rattle.runlist.specs.Plan.{Lent, lengths_of, Found, found, refused, Asked, m
 use Rattle.runlist.specs.RunList.{Ended, carried_out, run_paper}
 use Rattle.spelling.specs.Spell.{spell}
 use Rattle.spelling.specs.Print.{print_paper}
-use Rattle.spelling.specs.Language.{Reads, bad-settings as unset, not-text, not_enabled as disabled}
+use Rattle.spelling.specs.Language.{Reads, bad_settings as unset, not_text, not_enabled as disabled}
 use Rattle.spelling.proofs.Theorems.{reads_unique}
 use Rattle.spelling.proofs.Printing as printing
 use Rattle.demands.proofs.Execution as execution
@@ -51,8 +51,8 @@ decode_in_order s w =
 pub encode_in_order : (s : Settings) (f : Fields) (a : ℕ × ℕ) → Encodes s f a → EncodeInOrder s f a
 encode_in_order s f a e =
     record {
-      by_settings = λ v. encodes_unique s f a (1, 0) e (bad-settings v);
-      by-fields = λ v n. encodes_unique s f a (5, 0) e (no_word v n);
+      by_settings = λ v. encodes_unique s f a (1, 0) e (bad_settings v);
+      by_fields = λ v n. encodes_unique s f a (5, 0) e (no_word v n);
       by_feature = λ v w h n. encodes_unique s f a (3, 0) e (not_enabled v w h n);
     }
 
@@ -62,7 +62,7 @@ pub partner_in_order : (s : Settings) (w : ℕ) → PartnerInOrder s w
 unfolding partner_paper
 partner_in_order s w =
     record {
-      by_settings = partner-not_valid s w;
+      by_settings = partner_not_valid s w;
       by_word = λ v none. rw ((decode_in_order s w).by_word v (λ f t e. none f ((decodes_when s w f v).1 (t, e))));
       by_family = λ f e c. rw (e, c);
     }
@@ -82,7 +82,7 @@ pub read_in_order : (s : Settings) (t : List ℕ) (a : ℕ × ℕ) → Reads s t
 read_in_order s t a e =
     record {
       by_settings = λ v. reads_unique s t a (1, 0) e (unset v);
-      by_text = λ v none. reads_unique s t a (11, 0) e (not-text v none);
+      by_text = λ v none. reads_unique s t a (11, 0) e (not_text v none);
       by_feature = λ v w p n. reads_unique s t a (3, 0) e (disabled v w p n);
     }
 
@@ -109,16 +109,16 @@ module _ (list z za report : List ℕ) where
     unfolding plan_of settled_from
     at_z t = rw (t.front, t.valid, t.exact)
 
-    z-there : behind ≤ length list → z_from list lent settings at ≡ asking settings (take (z_length settings) (drop at list)) (words_from list lent behind)
+    z_there : behind ≤ length list → z_from list lent settings at ≡ asking settings (take (z_length settings) (drop at list)) (words_from list lent behind)
     unfolding z_from
-    z-there h = rw (le-leb behind (length list) h)
+    z_there h = rw (le-leb behind (length list) h)
 
     -- and the words after the count
     at_words : (n from : ℕ) → CountKnown list z za head at n from
         → plan_of list lent ≡ asking settings (take (z_length settings) (drop at list)) (after_count list lent behind (Number n from))
     unfolding words_from
     at_words n from c =
-        at_z c.lengths ∙ z-there c.z-there ∙ ap (λ (x : Read). asking settings (take (z_length settings) (drop at list)) (after_count list lent behind x)) c.count
+        at_z c.lengths ∙ z_there c.z_there ∙ ap (λ (x : Read). asking settings (take (z_length settings) (drop at list)) (after_count list lent behind x)) c.count
 
   pub list_in_order : ListInOrder list z za report
   unfolding plan_of settled_from z_from words_from
@@ -128,7 +128,7 @@ module _ (list z za report : List ℕ) where
         by_settings = λ head at e v. leads (refused BadSettings 0) (rw (e, v));
         by_lengths = λ head at e v l. leads (refused BadLength 0) (rw (e, v, l));
         in_z = λ head at t h. leads (refused ListEnds at) (at_z head at t ∙ rw (lt-leb (behind head at) (length list) h));
-        in_count = λ head at t h r p e. leads (refused r p) (at_z head at t ∙ z-there head at h ∙ rw e);
+        in_count = λ head at t h r p e. leads (refused r p) (at_z head at t ∙ z_there head at h ∙ rw e);
         by_count = λ head at n from c h. leads (refused TooManyWords (behind head at)) (at_words head at n from c ∙ rw (lt-leb n most_words h));
         by_report = λ head at n from c h k. leads (refused BadLength 0) (at_words head at n from c ∙ rw (le-leb n most_words h, lt-leb (4 * n) (length report) k));
         in_words = λ head at n from c h k vs r p e. leads (refused r p) (at_words head at n from c ∙ rw (le-leb n most_words h, le-leb (4 * n) (length report) k, e));

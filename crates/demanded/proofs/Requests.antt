@@ -41,11 +41,11 @@ request_one =
     record {
       of_c1a20008 = of_c1a20008;
       printed = printed;
-      takes_printed = texts.read-after_print false;
-      takes_short = texts.read-after_print true;
-      nothing_else = λ s t w r. (texts.print-after-read s t w [] r).spells;
+      takes_printed = texts.read_after_print false;
+      takes_short = texts.read_after_print true;
+      nothing_else = λ s t w r. (texts.print_after_read s t w [] r).spells;
       one_reading = texts.one_reading;
-      print-after-read = texts.print-after-read;
+      print_after_read = texts.print_after_read;
       numbers_of_words = λ t w p. (described_exactly w p.fields).0 p.says;
       no_longer = longest.no_longer;
       one_as_long = longest.one_as_long;
@@ -58,10 +58,10 @@ request_two =
       word_balances = balance.word_balances;
       run_balances = balance.run_balances;
       list_balances = balance.list_balances;
-      rises-from-zeros = balance.rises-from-zeros;
-      falls-from-ones = balance.falls-from-ones;
+      rises_from_zeros = balance.rises_from_zeros;
+      falls_from_ones = balance.falls_from_ones;
       bits_are = balance.bits_are;
     }
 
 pub request_three : RequestThree
-request_three = record { cleared_fall = execution.cleared_counted; same-at_128 = execution.at_128; asked_at_128 = sweep.clear-at_128 }
+request_three = record { cleared_fall = execution.cleared_counted; same_at_128 = execution.at_128; asked_at_128 = sweep.clear_at_128 }

@@ -106,8 +106,8 @@ pub record Demand2 : Type 0 where
   -- "A, B need AdvSIMD. C needs SVE2 or SME. .. Modes, tested at execution only: A, B need SM off. ..": every valid sum, in numbers
   pub features_and_modes : EnabledAndPermitted
   -- "encoding inverts decoding", one way and the other
-  pub encode-after_decode : (s : Settings) (w : ℕ) (f : Fields) (answer : ℕ × ℕ) → w < 2 ^ 32 → decode_paper s w ≡ (0, f) → Encodes s f answer → answer ≡ (0, w)
-  pub decode-after_encode : (s : Settings) (w : ℕ) (f : Fields) → Encodes s f (0, w) → decode_paper s w ≡ (0, f)
+  pub encode_after_decode : (s : Settings) (w : ℕ) (f : Fields) (answer : ℕ × ℕ) → w < 2 ^ 32 → decode_paper s w ≡ (0, f) → Encodes s f answer → answer ≡ (0, w)
+  pub decode_after_encode : (s : Settings) (w : ℕ) (f : Fields) → Encodes s f (0, w) → decode_paper s w ≡ (0, f)
   -- in C, too: the twelve numbers of fields stand for these fields, and no other twelve do
   pub c_fields_back : packing.FieldsBack
   pub c_numbers_back : packing.NumbersBack
@@ -125,7 +125,7 @@ pub record Demand2 : Type 0 where
   pub in_d : Whenever LongLong (ElementsZa 4)
   pub in_e : Whenever Long (ElementsZa 2)
   -- "Stride is (VL/8)/group. The first vector is (W+offset) mod stride, rounded down to a multiple of k"
-  pub first-vector : WheneverZa (λ k s f z za o. First k s f)
+  pub first_vector_is : WheneverZa (λ k s f z za o. First k s f)
   -- "For r below group and i below k, vector first + r·stride + i of ZA": these vectors and no others, each once
   pub vectors_exact : WheneverZa (λ k s f z za o. Exact k s f)
   pub vectors_distinct : WheneverZa (λ k s f z za o. Distinct k s f)
@@ -152,7 +152,7 @@ pub record Demand2 : Type 0 where
 -- its word's falls, and the other way round", and there is a premise more (`ClearInTurn`): "before each A or B word runs, its destination has zeros
 -- from byte 16 on"
 pub record Demand3 : Type 0 where
-  pub sweep-closes : SweepCloses
+  pub sweep_closes : SweepCloses
   -- "each word's partner .. is accepted": by `partner` and by `execute`
   pub partner_accepts : UndoAccepts
   pub partners_accepted : PartnersAccepted

@@ -42,7 +42,7 @@ pub record DecodeInOrder (s : Settings) (w : ℕ) : Type 0 where
 -- 5: "no word of the family's layout, reserved sizes left out, has exactly these fields"
 pub record EncodeInOrder (s : Settings) (f : Fields) (answer : ℕ × ℕ) : Type 0 where
   pub by_settings : valid_settings s ≡ false → answer ≡ (1, 0)
-  pub by-fields : valid_settings s ≡ true → ((w : ℕ) → Has f w → ⊥) → answer ≡ (5, 0)
+  pub by_fields : valid_settings s ≡ true → ((w : ℕ) → Has f w → ⊥) → answer ≡ (5, 0)
   pub by_feature : valid_settings s ≡ true → (w : ℕ) → Has f w → enables s.features.0 f ≡ false → answer ≡ (3, 0)
 
 -- 6: "the word is of family C"
@@ -84,7 +84,7 @@ pub record LengthsRight (list z za head : List ℕ) (at : ℕ) : Type 0 where
 -- the list has all Z bytes, the count n behind them is read, and the words begin at `from`
 pub record CountKnown (list z za head : List ℕ) (at n from : ℕ) : Type 0 where
   pub lengths : LengthsRight list z za head at
-  pub z-there : at + z_length (settings_of head) ≤ length list
+  pub z_there : at + z_length (settings_of head) ≤ length list
   pub count : number_at list (at + z_length (settings_of head)) ≡ Number n from
 
 -- 1 after W11, "and next the exact lengths of Z and ZA (2)"; the Z bytes; the count, 9, "The report's length (2) is tested after 9 and before the

@@ -30,7 +30,7 @@ pub record RequestOne : Type 0 where
   -- "each accepted text has one reading"
   pub one_reading : OneReading
   -- "printing that reading gives the preferred text"
-  pub print-after-read : PrintAfterRead
+  pub print_after_read : PrintAfterRead
   -- "A number that no word of the family can carry is not of the language": the fields of a text are those of its word
   pub numbers_of_words : (t : List ℕ) (w : ℕ) (p : Spells t w) → SaidBy table w p.fields
   -- no text is longer than the constant, and one is as long
@@ -49,16 +49,16 @@ pub record RequestTwo : Type 0 where
   -- and of every accepted list, with the numbers of the tally
   pub list_balances : ListBalances
   -- rises are at most the bits that were 0, and falls at most those that were 1
-  pub rises-from-zeros : Always RisesFromZeros
-  pub falls-from-ones : Always FallsFromOnes
+  pub rises_from_zeros : Always RisesFromZeros
+  pub falls_from_ones : Always FallsFromOnes
   pub bits_are : BitsAre
 
 -- Three. "writing a V register sets the rest of the Z register to zero. Families A and B now do this. Their written count becomes VL" stands in Demand2
--- (`v_cleared`, `written_exact`), and the premise that demand 3 gains in Demand3 (`sweep-closes`, `callers_see`, `premises_needed`)
+-- (`v_cleared`, `written_exact`), and the premise that demand 3 gains in Demand3 (`sweep_closes`, `callers_see`, `premises_needed`)
 pub record RequestThree : Type 0 where
   -- "cleared bits count as falls": each 1 above the V register, beside what rises and falls in it
   pub cleared_fall : WheneverV CountsCleared
   -- "At VL 128 nothing changes": neither the register nor written
-  pub same-at_128 : WheneverV SameAt128
+  pub same_at_128 : WheneverV SameAt128
   -- nor what demand 3 asks
   pub asked_at_128 : ClearAt128

@@ -13,7 +13,7 @@ use Rattle.machine.specs.Run.{run_of}
 use Rattle.runlist.specs.Plan.{Found, Asked}
 use Rattle.runlist.specs.RunList.{no_tally, tallied, carried_out, run_paper}
 use Rattle.demands.specs.Balance.{ones, BitsAre, Balances, RisesFromZeros, FallsFromOnes, RunBalances, EndBalances, ListBalances}
-use Rattle.demands.proofs.Execution.{each_counted, lengths-kept}
+use Rattle.demands.proofs.Execution.{each_counted, lengths_kept}
 
 pub bits_are : BitsAre
 bits_are z za = omega (arith, bits.bits_are z, bits.bits_are za)
@@ -25,21 +25,21 @@ module _ (s : Settings) (w : ℕ) (z za : List ℕ) where
   o = execute_paper s w z za
 
   z_long : length z ≡ length (execute_paper s w z za).z
-  z_long = sym (lengths-kept s w z za).0
+  z_long = sym (lengths_kept s w z za).0
 
   za_long : length za ≡ length (execute_paper s w z za).za
-  za_long = sym (lengths-kept s w z za).1
+  za_long = sym (lengths_kept s w z za).1
 
   pub word_balances : Balances z za (execute_paper s w z za)
   word_balances =
       let e = each_counted s w z za in
       omega (arith, e.0, e.1, bits.balance z o.z z_long, bits.balance za o.za za_long)
 
-  pub rises-from-zeros : RisesFromZeros z za (execute_paper s w z za)
-  rises-from-zeros = omega (arith, (each_counted s w z za).0, bits.rises_le z o.z z_long, bits.rises_le za o.za za_long)
+  pub rises_from_zeros : RisesFromZeros z za (execute_paper s w z za)
+  rises_from_zeros = omega (arith, (each_counted s w z za).0, bits.rises_le z o.z z_long, bits.rises_le za o.za za_long)
 
-  pub falls-from-ones : FallsFromOnes z za (execute_paper s w z za)
-  falls-from-ones = omega (arith, (each_counted s w z za).1, bits.falls_le z o.z z_long, bits.falls_le za o.za za_long)
+  pub falls_from_ones : FallsFromOnes z za (execute_paper s w z za)
+  falls_from_ones = omega (arith, (each_counted s w z za).1, bits.falls_le z o.z z_long, bits.falls_le za o.za za_long)
 
 -- ---- a run
 

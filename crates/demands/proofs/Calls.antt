@@ -15,18 +15,18 @@ use Rattle.machine.specs.declared.Executed.TheVariants.{Done, Refused}
 use Rattle.machine.proofs.Answers.{executed_known}
 use Rattle.demands.specs.Sweep.{there, undo_paper, AcceptedInTurn, of_partner}
 use Rattle.demands.specs.Calls.{Promise, Calls, none, next, Followed, UndoCalls, AllDone, partner_answers, CallersSee}
-use Rattle.demands.proofs.Sweep.{undo-word, undo-refused, sweep-closes}
+use Rattle.demands.proofs.Sweep.{undo_word, undo_refused, sweep_closes}
 
 -- ---- the two calls of the way back
 
-followed-says : (s : Settings) (w : ℕ) (z za : List ℕ) (r : Executed) (z' za' : List ℕ) (p : Partnered) → partnered_says p ≡ partner_paper s w
+followed_says : (s : Settings) (w : ℕ) (z za : List ℕ) (r : Executed) (z' za' : List ℕ) (p : Partnered) → partnered_says p ≡ partner_paper s w
     → Followed s p z za r z' za' → executed_says r z' za' ≡ undo_paper s w z za
-followed-says s w z za r z' za' (partnered.Word v) e f = f ∙ undo-word s w z za v e
-followed-says s w z za r z' za' (partnered.Refused q) e (er, ez, eza) =
-    rw (er, ez, eza) (undo-refused s w z za (refusal_number q) e (not_0 q))
+followed_says s w z za r z' za' (partnered.Word v) e f = f ∙ undo_word s w z za v e
+followed_says s w z za r z' za' (partnered.Refused q) e (er, ez, eza) =
+    rw (er, ez, eza) (undo_refused s w z za (refusal_number q) e (not_0 q))
 
-undo-says : (s : Settings) (w : ℕ) (z za : List ℕ) (r : Executed) (z' za' : List ℕ) → UndoCalls s w z za r z' za' → executed_says r z' za' ≡ undo_paper s w z za
-undo-says s w z za r z' za' u = followed-says s w z za r z' za' u.asked u.promised u.followed
+undo_says : (s : Settings) (w : ℕ) (z za : List ℕ) (r : Executed) (z' za' : List ℕ) → UndoCalls s w z za r z' za' → executed_says r z' za' ≡ undo_paper s w z za
+undo_says s w z za r z' za' u = followed_says s w z za r z' za' u.asked u.promised u.followed
 
 -- ---- calls are a run
 
@@ -35,12 +35,12 @@ said : Executed → Report
 said r = report_of (executed_says r [] [])
 
 -- an answer leaves what its promise says, and goes before the others
-first-call : (r : Executed) (z za : List ℕ) (go : List ℕ → List ℕ → Run)
+first_call : (r : Executed) (z za : List ℕ) (go : List ℕ → List ℕ → Run)
     → report_first (executed_says r z za) (go (executed_says r z za).z (executed_says r z za).za)
     ≡ record { z = (go z za).z; za = (go z za).za; reports = said r ∷ (go z za).reports }
 unfolding said
-first-call (Done c) z za go = refl
-first-call (Refused r) z za go = refl
+first_call (Done c) z za go = refl
+first_call (Refused r) z za go = refl
 
 first_done : (r : Executed) (rs : List Executed) → AllDone (r ∷ rs) → (z za : List ℕ) (Q : List ℕ → List ℕ → Type 0) → (AllDone rs → Q z za)
     → ((executed_says r z za).number ≡ 0) × Q (executed_says r z za).z (executed_says r z za).za
@@ -49,14 +49,14 @@ first_done (Refused r) rs d z za Q q = absurd d
 
 module _ (each : PerWord) (P : Promise)
     (says : (w : ℕ) (z za : List ℕ) (r : Executed) (z' za' : List ℕ) → P w z za r z' za' → executed_says r z' za' ≡ each w z za) where
-  calls-run : {ws z za z' za' : List ℕ} {rs : List Executed} → Calls P ws z za rs z' za'
+  calls_run : {ws z za z' za' : List ℕ} {rs : List Executed} → Calls P ws z za rs z' za'
       → run_of each ws z za ≡ record { z = z'; za = za'; reports = map said rs }
   unfolding run_of
-  calls-run none = refl
-  calls-run (next {w} {ws} {z} {za} {z₁} {za₁} {z₂} {za₂} {r} {rs} p c) =
+  calls_run none = refl
+  calls_run (next {w} {ws} {z} {za} {z₁} {za₁} {z₂} {za₂} {r} {rs} p c) =
       ap (λ (o : Outcome). report_first o (run_of each ws o.z o.za)) (sym (says w z za r z₁ za₁ p))
-      ∙ first-call r z₁ za₁ (run_of each ws)
-      ∙ ap (λ (q : Run). record { z = q.z; za = q.za; reports = said r ∷ q.reports }) (calls-run c)
+      ∙ first_call r z₁ za₁ (run_of each ws)
+      ∙ ap (λ (q : Run). record { z = q.z; za = q.za; reports = said r ∷ q.reports }) (calls_run c)
 
   -- accepted answers are accepted words
   calls_accepted : {ws z za z' za' : List ℕ} {rs : List Executed} → Calls P ws z za rs z' za' → AllDone rs → AcceptedInTurn each ws z za
@@ -68,12 +68,12 @@ module _ (each : PerWord) (P : Promise)
 -- ---- the answers, in reverse order
 
 -- the reports that the theorem gives the partners are those of the answers
-said-back : (rs before : List Executed) → AllDone rs
+said_back : (rs before : List Executed) → AllDone rs
     → reverse_aux (map of_partner (map said rs)) (map said before) ≡ map said (reverse_aux (map partner_answers rs) before)
 unfolding said
-said-back [] before d = refl
-said-back (Done c ∷ rs) before d = said-back rs (partner_answers (Done c) ∷ before) d
-said-back (Refused r ∷ rs) before d = absurd d
+said_back [] before d = refl
+said_back (Done c ∷ rs) before d = said_back rs (partner_answers (Done c) ∷ before) d
+said_back (Refused r ∷ rs) before d = absurd d
 
 -- an answer is known by its report
 said_known : (r q : Executed) → said r ≡ said q → r ≡ q
@@ -90,14 +90,14 @@ all_known (r ∷ rs) (q ∷ qs) e = ap₂ ◌∷◌ (said_known r q (head-eq_of_
 
 pub callers_see : CallersSee
 callers_see s ws z za z₁ za₁ z₂ za₂ rs qs bz bza forward done c p h backward =
-    let ran : there s ws z za ≡ record { z = z₁; za = za₁; reports = map said rs } = calls-run (execute_paper s) (ExecutePromise s) (λ w z za r z' za' e. e) forward in
+    let ran : there s ws z za ≡ record { z = z₁; za = za₁; reports = map said rs } = calls_run (execute_paper s) (ExecutePromise s) (λ w z za r z' za' e. e) forward in
     let undone : run_of (undo_paper s) (reverse ws) z₁ za₁ ≡ record { z = z₂; za = za₂; reports = map said qs } =
-    calls-run (undo_paper s) (UndoCalls s) (undo-says s) backward in
-    let closed = sweep-closes s ws z za bz bza (calls_accepted (execute_paper s) (ExecutePromise s) (λ w z za r z' za' e. e) forward done) c p h in
+    calls_run (undo_paper s) (UndoCalls s) (undo_says s) backward in
+    let closed = sweep_closes s ws z za bz bza (calls_accepted (execute_paper s) (ExecutePromise s) (λ w z za r z' za' e. e) forward done) c p h in
     let same : ◌≡◌ {A = Run} (record { z = z₂; za = za₂; reports = map said qs }) (record { z = z; za = za; reports = map said (reverse (map partner_answers rs)) }) =
     sym undone
     ∙ subst (λ (t : Run). run_of (undo_paper s) (reverse ws) t.z t.za ≡ record { z = z; za = za; reports = reverse (map of_partner t.reports) }) ran closed
-    ∙ ap (λ (r : List Report). record { z = z; za = za; reports = r }) (said-back rs [] done) in (
+    ∙ ap (λ (r : List Report). record { z = z; za = za; reports = r }) (said_back rs [] done) in (
       all_known qs (reverse (map partner_answers rs)) (ap (λ (t : Run). t.reports) same),
       ap (λ (t : Run). t.z) same,
       ap (λ (t : Run). t.za) same,

@@ -6,11 +6,11 @@ use mathlib.Core.Logic.{inl, inr, ⊎_elim, ◌≢◌}
 use mathlib.Core.Bool.{cond}
 use mathlib.Core.List.{List}
 use Rattle.settings.specs.declared.Settings.{Settings}
-use Rattle.settings.proofs.Lengths.{vector-bits, same_length}
+use Rattle.settings.proofs.Lengths.{vector_bits, same_length}
 use Rattle.words.specs.declared.Family.{Family}
 use Rattle.words.specs.declared.Family.TheVariants.{ByElement, Vector, Saturating, LongLong, Long}
 use Rattle.words.specs.declared.Fields.{Fields}
-use Rattle.bits.proofs.Bits.{rises-same, falls-same, toggled-differs}
+use Rattle.bits.proofs.Bits.{rises_same, falls_same, toggled_differs}
 use Rattle.recipes.specs.Recipe.{per_source}
 use Rattle.machine.specs.Execute.{Outcome, execute_paper, refused_with, writes_za, stepped}
 use Rattle.machine.specs.Step.{z_after, za_after}
@@ -22,14 +22,14 @@ use Rattle.demands.specs.Execution.{Always, KeepsIfRefused, SameLengths, StillBy
 use Rattle.demands.specs.Execution.{Whenever, ElementsA, ElementsB, ElementsC, ElementsZa, WrittenIs, ElsewhereZ, ZElsewhere, ElsewhereZa}
 use Rattle.demands.specs.Execution.{WheneverV, ClearsAbove, CountsCleared, SameAt128, WheneverZa, First, Distinct, Exact}
 use Rattle.demands.proofs.Outcomes.{accepted, in_order, IsRefused, refused_or_accepted, stepped_number}
-use Rattle.demands.proofs.Accepted.{step_accepts, step_lengths, step_bytes, step-each, step_few}
-use Rattle.demands.proofs.Accepted.{elements_a, elements_b, elements_c, elements-d, elements_e, clears-above, counts_cleared, same-at_128, out_z, out-za}
+use Rattle.demands.proofs.Accepted.{step_accepts, step_lengths, step_bytes, step_each, step_few}
+use Rattle.demands.proofs.Accepted.{elements_a, elements_b, elements_c, elements_d, elements_e, clears_above, counts_cleared, same_at_128, out_z, out-za}
 use Rattle.demands.proofs.Accepted.{first, distinct, exact}
 
 -- ---- VL
 
 pub length_is_vl : LengthIsVl
-length_is_vl s v = (vector-bits s v, ap (λ (n : ℕ). 8 * n) (same_length s) ∙ vector-bits s v)
+length_is_vl s v = (vector_bits s v, ap (λ (n : ℕ). 8 * n) (same_length s) ∙ vector_bits s v)
 
 -- ---- which words are accepted, and how the others are refused
 
@@ -62,26 +62,26 @@ always P k l s w z za =
 pub refused_keeps : Always KeepsIfRefused
 refused_keeps = always KeepsIfRefused (λ n z za h _. (refl, refl, refl, refl, refl)) step_accepts
 
-pub lengths-kept : Always SameLengths
-lengths-kept = always SameLengths (λ n z za h. (refl, refl)) step_lengths
+pub lengths_kept : Always SameLengths
+lengths_kept = always SameLengths (λ n z za h. (refl, refl)) step_lengths
 
-pub bytes-kept : Always StillBytes
-bytes-kept = always StillBytes (λ n z za h b c. (b, c)) step_bytes
+pub bytes_kept : Always StillBytes
+bytes_kept = always StillBytes (λ n z za h b c. (b, c)) step_bytes
 
 pub each_counted : Always CountsEach
-each_counted = always CountsEach (λ n z za h. (omega (arith, rises-same z, rises-same za), omega (arith, falls-same z, falls-same za))) step-each
+each_counted = always CountsEach (λ n z za h. (omega (arith, rises_same z, rises_same za), omega (arith, falls_same z, falls_same za))) step_each
 
-pub toggled-whole : Always CountsToggled
-toggled-whole s w z za =
+pub toggled_whole : Always CountsToggled
+toggled_whole s w z za =
     let o : Outcome = execute_paper s w z za in
     let e = each_counted s w z za in
-    omega (arith, e.0, e.1, toggled-differs z o.z, toggled-differs za o.za)
+    omega (arith, e.0, e.1, toggled_differs z o.z, toggled_differs za o.za)
 
-pub toggled_le-written : Always AtMostWritten
-toggled_le-written = always AtMostWritten (λ n z za h. omega arith) step_few
+pub toggled_le_written : Always AtMostWritten
+toggled_le_written = always AtMostWritten (λ n z za h. omega arith) step_few
 
-pub few-written : Always FewWritten
-few-written s w z za = (counts_small s w z za).2
+pub few_written : Always FewWritten
+few_written s w z za = (counts_small s w z za).2
 
 -- ---- where a word of a family is accepted
 
@@ -113,20 +113,20 @@ written_is =
       in_e = whenever Long (λ s f z za o. o.written ≡ vl_of s * f.group * 2) (λ s w f z za a e. rw e);
     }
 
-pub by-element-step : Whenever ByElement ElementsA
-by-element-step = whenever ByElement ElementsA elements_a
+pub by_element_step : Whenever ByElement ElementsA
+by_element_step = whenever ByElement ElementsA elements_a
 
-pub vector-step : Whenever Vector ElementsB
-vector-step = whenever Vector ElementsB elements_b
+pub vector_step : Whenever Vector ElementsB
+vector_step = whenever Vector ElementsB elements_b
 
-pub saturating-step : Whenever Saturating ElementsC
-saturating-step = whenever Saturating ElementsC elements_c
+pub saturating_step : Whenever Saturating ElementsC
+saturating_step = whenever Saturating ElementsC elements_c
 
-pub long_long-step : Whenever LongLong (ElementsZa 4)
-long_long-step = whenever LongLong (ElementsZa 4) elements-d
+pub long_long_step : Whenever LongLong (ElementsZa 4)
+long_long_step = whenever LongLong (ElementsZa 4) elements_d
 
-pub long-step : Whenever Long (ElementsZa 2)
-long-step = whenever Long (ElementsZa 2) elements_e
+pub long_step : Whenever Long (ElementsZa 2)
+long_step = whenever Long (ElementsZa 2) elements_e
 
 -- ---- the upper part of a V write
 
@@ -135,14 +135,14 @@ whenever_v : (P : Settings → Fields → List ℕ → List ℕ → Outcome → 
     → ((s : Settings) (w : ℕ) (f : Fields) (z za : List ℕ) → Accepted s w f z za → IntoV f → P s f z za (stepped_z s f z za)) → WheneverV P
 whenever_v P h = (whenever ByElement P (λ s w f z za a e. h s w f z za a (inl e)), whenever Vector P (λ s w f z za a e. h s w f z za a (inr e)))
 
-pub cleared-above : WheneverV ClearsAbove
-cleared-above = whenever_v ClearsAbove clears-above
+pub cleared_above : WheneverV ClearsAbove
+cleared_above = whenever_v ClearsAbove clears_above
 
 pub cleared_counted : WheneverV CountsCleared
 cleared_counted = whenever_v CountsCleared counts_cleared
 
 pub at_128 : WheneverV SameAt128
-at_128 = whenever_v SameAt128 same-at_128
+at_128 = whenever_v SameAt128 same_at_128
 
 -- ---- everything else stays
 
@@ -171,8 +171,8 @@ by-k P h = (
   λ s w f z za a q. subst (λ (x : Family). P (per_source x) s f) q (h s w f z za a (inr q)),
 )
 
-pub first-vector : WheneverZa (λ k s f z za o. First k s f)
-first-vector = by-k First first
+pub first_vector_is : WheneverZa (λ k s f z za o. First k s f)
+first_vector_is = by-k First first
 
 pub vectors_distinct : WheneverZa (λ k s f z za o. Distinct k s f)
 vectors_distinct = by-k Distinct distinct

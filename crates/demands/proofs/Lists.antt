@@ -13,11 +13,11 @@ use Rattle.laws.proofs.Lists.{first_decide}
 use Rattle.settings.specs.declared.Refusal.{Refusal}
 use Rattle.settings.specs.declared.Refusal.TheVariants.{ExtraBytes}
 use Rattle.settings.specs.declared.Settings.{Settings}
-use Rattle.numbers.proofs.Places.{number-kept}
+use Rattle.numbers.proofs.Places.{number_kept}
 use Rattle.numbers.proofs.Rows.{row_kept}
 use Rattle.runlist.specs.Plan.{Lent, lengths_of, Found, found, refused, Asked, most_words, ended_at, words_from, asking, settled_from, headed, plan_of}
 use Rattle.runlist.specs.RunList.{carried_out, run_paper}
-use Rattle.runlist.proofs.Plans.{not-refused, words_counted, z-read}
+use Rattle.runlist.proofs.Plans.{not-refused, words_counted, z_read}
 use Rattle.demands.specs.Lists.{longest, AtMostLongest, OnlyWhole, FirstBytesDecide, EnoughBytes, RunOfEnough, LengthsHold, RefusedKeeps, PlaceInside, PlaceNear, RunSmall, OfList, RefusedWith}
 use Rattle.demands.proofs.Reading.{Worded, PartsOf, parts_of, by_cause, far}
 
@@ -30,7 +30,7 @@ some_bytes (b ∷ t) h = omega arith
 module _ (list t : List ℕ) (h : t ≢ []) where
   words_more : (lent : Lent) (at : ℕ) (ws : List ℕ) → Worded list lent at ws → words_from (list ++ t) lent at ≡ refused ExtraBytes (length list)
   words_more lent at ws w =
-      sym (words_counted (list ++ t) lent at (length ws) w.from (number-kept list t at (length ws) w.from w.count) w.few w.reported)
+      sym (words_counted (list ++ t) lent at (length ws) w.from (number_kept list t at (length ws) w.from w.count) w.few w.reported)
       ∙ ap (ended_at (list ++ t)) (row_kept list t w.from (length ws) ws (length list) w.row)
       ∙ simp (ne_eqb (length list) (length (list ++ t)) (λ (q : length list ≡ length (list ++ t)). omega (arith, length-append list t, some_bytes t h)))
 
@@ -39,22 +39,22 @@ module _ (list t : List ℕ) (h : t ≢ []) where
   parts_more lent a m =
       ap (headed (list ++ t) lent) (row_kept list t 0 7 m.head m.at m.header)
       ∙ ap (λ (s : Settings). settled_from (list ++ t) lent s m.at) (sym m.settings_are)
-      ∙ sym (z-read (list ++ t) lent a.settings m.at m.valid m.exact (omega (arith, m.there, length-append list t)))
+      ∙ sym (z_read (list ++ t) lent a.settings m.at m.valid m.exact (omega (arith, m.there, length-append list t)))
       ∙ ap (asking a.settings (take lent.z (drop m.at (list ++ t)))) (words_more lent (m.at + lent.z) a.words m.words_are)
 
-pub only-whole : OnlyWhole
-only-whole list lent a e t h = parts_more list t h lent a (parts_of list lent a e)
+pub only_whole : OnlyWhole
+only_whole list lent a e t h = parts_more list t h lent a (parts_of list lent a e)
 
 pub first_bytes_decide : FirstBytesDecide
 first_bytes_decide list t lent h = far list t lent h
 
 -- a longer list would stay accepted with a byte after it
-pub at_most-longest : AtMostLongest
-at_most-longest list lent a e =
+pub at_most_longest : AtMostLongest
+at_most_longest list lent a e =
     elim (dec_le (length list) longest) [
       | yes y ↦ y
       | no n ↦
-          let whole = only-whole list lent a e (0 ∷ []) (λ (f : 0 ∷ [] ≡ []). let z : ◌≡◌ {A = ℕ} 0 1 = cc in omega arith) in
+          let whole = only_whole list lent a e (0 ∷ []) (λ (f : 0 ∷ [] ≡ []). let z : ◌≡◌ {A = ℕ} 0 1 = cc in omega arith) in
           not-refused a ExtraBytes (length list) (sym whole ∙ first_bytes_decide list (0 ∷ []) lent (omega arith) ∙ e)
     ]
 

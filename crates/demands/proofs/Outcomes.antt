@@ -16,7 +16,7 @@ use Rattle.machine.specs.Modes.{permits}
 use Rattle.machine.specs.Execute.{Outcome, refused_with, stepped, right_lengths, execute_paper}
 use Rattle.machine.specs.Loop.{IntoZa, Ready}
 use Rattle.machine.proofs.Stepping.{IntoZ, which_file, stepped_z, stepped_za, stepped_z_lem, stepped-za}
-use Rattle.machine.proofs.Executing.{word_ranges, not_valid, not_long, lengths_right, is_ready, not-decoded, not_permitted, is_permitted, each-outcome}
+use Rattle.machine.proofs.Executing.{word_ranges, not_valid, not_long, lengths_right, is_ready, not_decoded, not_permitted, is_permitted, each_outcome}
 use Rattle.demands.specs.Execution.{Accepted, RefusedInOrder}
 
 -- decoding gives 0 or 3
@@ -30,9 +30,9 @@ unfolding decode_paper decode_enabled
 decoded_number s w v = rw v (enabled_number s.features.0 (describe w))
 
 module _ (s : Settings) (w : ℕ) (z za : List ℕ) where
-  lengths-wrong : valid_settings s ≡ true → (length z ≢ 32 * vector_bytes s) ⊎ (length za ≢ array_bytes s * array_bytes s) → right_lengths s (length z) (length za) ≡ false
-  lengths-wrong v (inl n) = failed (right_lengths s (length z) (length za)) (λ e. n (is_ready s z za v e).z_long)
-  lengths-wrong v (inr n) = failed (right_lengths s (length z) (length za)) (λ e. n (is_ready s z za v e).za_long)
+  lengths_wrong : valid_settings s ≡ true → (length z ≢ 32 * vector_bytes s) ⊎ (length za ≢ array_bytes s * array_bytes s) → right_lengths s (length z) (length za) ≡ false
+  lengths_wrong v (inl n) = failed (right_lengths s (length z) (length za)) (λ e. n (is_ready s z za v e).z_long)
+  lengths_wrong v (inr n) = failed (right_lengths s (length z) (length za)) (λ e. n (is_ready s z za v e).za_long)
 
   -- ---- the refusals, one test after the other
 
@@ -43,7 +43,7 @@ module _ (s : Settings) (w : ℕ) (z za : List ℕ) where
   refused_2 v l = sym (not_long s z za w v l)
 
   refused_3 : valid_settings s ≡ true → right_lengths s (length z) (length za) ≡ true → (decode_paper s w).0 ≢ 0 → execute_paper s w z za ≡ refused_with 3 z za
-  refused_3 v l h = sym (not-decoded s z za w (is_ready s z za v l) h)
+  refused_3 v l h = sym (not_decoded s z za w (is_ready s z za v l) h)
 
   refused_4 : valid_settings s ≡ true → right_lengths s (length z) (length za) ≡ true → (f : Fields) → decode_paper s w ≡ (0, f)
       → permits s.features.0 s.modes.0 f.family ≡ false → execute_paper s w z za ≡ refused_with 4 z za
@@ -59,7 +59,7 @@ module _ (s : Settings) (w : ℕ) (z za : List ℕ) where
   in_order =
       record {
         by_settings = refused_1;
-        by_lengths = λ v l. refused_2 v (lengths-wrong v l);
+        by_lengths = λ v l. refused_2 v (lengths_wrong v l);
         by_word = λ v p q n d h.
             let e : n ≡ 3 = three v n d h in
             (refused_3 v (lengths_right s _ _ p q) (λ o. h (sym d ∙ o)) ∙ ap (λ (m : ℕ). refused_with m z za) (sym e), e);
@@ -76,7 +76,7 @@ module _ (s : Settings) (w : ℕ) (z za : List ℕ) where
 
   pub refused_or_accepted : IsRefused ⊎ ((f : Fields) × Accepted s w f z za)
   refused_or_accepted =
-      each-outcome s z za w (λ o. ((n : ℕ) × ((n ≢ 0) × (o ≡ refused_with n z za))) ⊎ ((f : Fields) × Accepted s w f z za))
+      each_outcome s z za w (λ o. ((n : ℕ) × ((n ≢ 0) × (o ≡ refused_with n z za))) ⊎ ((f : Fields) × Accepted s w f z za))
       (λ n h. inl (n, (h, refl)))
       (λ f r d p. inr (f, record { valid = r.valid; z_exact = r.z_long; za_exact = r.za_long; decodes = d; permitted = p }))
 
@@ -88,9 +88,9 @@ module _ (s : Settings) (w : ℕ) (z za : List ℕ) where
 
 module _ (s : Settings) (f : Fields) (z za : List ℕ) where
   -- what holds of a step into Z and of one into ZA holds of every step
-  pub by-step : (P : Outcome → Type 0) → (IntoZ f → P (stepped_z s f z za)) → (IntoZa f → P (stepped_za s f z za)) → P (stepped s f z za)
-  by-step P a b =
+  pub by_step : (P : Outcome → Type 0) → (IntoZ f → P (stepped_z s f z za)) → (IntoZa f → P (stepped_za s f z za)) → P (stepped s f z za)
+  by_step P a b =
       ⊎_elim (λ i. subst P (sym (stepped_z_lem s f z za i)) (a i)) (λ i. subst P (sym (stepped-za s f z za i)) (b i)) (which_file f)
 
   pub stepped_number : (stepped s f z za).number ≡ 0
-  stepped_number = by-step (λ o. o.number ≡ 0) (λ _. refl) (λ _. refl)
+  stepped_number = by_step (λ o. o.number ≡ 0) (λ _. refl) (λ _. refl)

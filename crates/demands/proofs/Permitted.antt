@@ -10,7 +10,7 @@ use Rattle.laws.proofs.Tests.{all_three, by_lt}
 use Rattle.settings.specs.Valid.{valid_features, valid_modes}
 use Rattle.settings.specs.declared.Settings.{Settings}
 use Rattle.settings.specs.declared.Refusal.TheVariants.{UnknownWord}
-use Rattle.settings.proofs.Lengths.{valid-parts}
+use Rattle.settings.proofs.Lengths.{valid_parts}
 use Rattle.settings.proofs.Refusals.{not_0}
 use Rattle.words.specs.Says.{As, describe}
 use Rattle.words.specs.Decode.{enables_family, enables, decode_enabled, decode_paper}
@@ -22,7 +22,7 @@ use Rattle.words.proofs.Ranges.{in_range, in_family}
 use Rattle.machine.specs.Modes.{permits}
 use Rattle.machine.specs.Execute.{Outcome, execute_paper}
 use Rattle.machine.specs.Loop.{Ready}
-use Rattle.machine.proofs.Executing.{not-decoded, not_permitted, is_permitted}
+use Rattle.machine.proofs.Executing.{not_decoded, not_permitted, is_permitted}
 use Rattle.demands.specs.Permitted.{Needs, in_a, in_b, in_c, in_d, in_d_with_z, in_e, number_due, WordsOfTable, needs_of, EveryWord, EnabledAndPermitted}
 use Rattle.demands.proofs.Outcomes.{stepped_number}
 
@@ -46,7 +46,7 @@ module _ (s : Settings) (w : ℕ) (z za : List ℕ) (r : Ready s z za) (f : Fiel
   at_features true e =
       at_modes ((decodes_exactly s w f).1 (record { valid = r.valid; says = said; enabled = e })) (permits s.features.0 s.modes.0 f.family) refl
   at_features false e =
-      ap (λ (o : Outcome). o.number) (sym (not-decoded s z za w r (λ n. not_0 UnknownWord (sym (not_enabled e) ∙ n))))
+      ap (λ (o : Outcome). o.number) (sym (not_decoded s z za w r (λ n. not_0 UnknownWord (sym (not_enabled e) ∙ n))))
 
   number_is : (family : Family) (lane : ℕ) → f.family ≡ family → f.lane ≡ lane
       → (execute_paper s w z za).number ≡ number_of family lane s.features.0 s.modes.0
@@ -75,9 +75,9 @@ where_valid number features modes = cond (valid_features features && valid_modes
 all : (ℕ → ℕ → ℕ) → List (List ℕ)
 all number = below (λ features. below (where_valid number features) 4) 32
 
-all-at : (f g : ℕ → ℕ → ℕ) → all f ≡ all g → (features modes : ℕ) → valid_features features ≡ true → valid_modes features modes ≡ true → f features modes ≡ g features modes
+all_at : (f g : ℕ → ℕ → ℕ) → all f ≡ all g → (features modes : ℕ) → valid_features features ≡ true → valid_modes features modes ≡ true → f features modes ≡ g features modes
 unfolding all
-all-at f g e features modes p q =
+all_at f g e features modes p q =
     let few : features < 32 = ltb-true features 32 (all_three _ _ _ p).0 in
     let less : modes < 4 = ltb-true modes 4 (all_three _ _ _ q).0 in
     rw (p, q) at (below_at (where_valid f features) (where_valid g features) 4 (below_at _ _ 32 e features few) modes less)
@@ -85,32 +85,32 @@ all-at f g e features modes p q =
 -- ---- the words
 
 module _ (s : Settings) (z za : List ℕ) (r : Ready s z za) where
-  by-table : (l : Needs) (w : ℕ) (f : Fields) → describe w ≡ As f → (family : Family) (lane : ℕ) → f.family ≡ family → f.lane ≡ lane
+  by_table : (l : Needs) (w : ℕ) (f : Fields) → describe w ≡ As f → (family : Family) (lane : ℕ) → f.family ≡ family → f.lane ≡ lane
       → all (number_of family lane) ≡ all (number_due l) → (execute_paper s w z za).number ≡ number_due l s.features.0 s.modes.0
-  by-table l w f said family lane ef el e =
-      let v = valid-parts s r.valid in
-      number_is s w z za r f said family lane ef el ∙ all-at (number_of family lane) (number_due l) e s.features.0 s.modes.0 v.1 v.2
+  by_table l w f said family lane ef el e =
+      let v = valid_parts s r.valid in
+      number_is s w z za r f said family lane ef el ∙ all_at (number_of family lane) (number_due l) e s.features.0 s.modes.0 v.1 v.2
 
   -- the lists, against the definitions
   in_family_is : (w : ℕ) (f : Fields) → describe w ≡ As f → (family : Family) → f.family ≡ family
       → (execute_paper s w z za).number ≡ number_due (needs_of family f.lane) s.features.0 s.modes.0
   unfolding below all
-  in_family_is w f said ByElement e = by-table in_a w f said ByElement f.lane e refl refl
-  in_family_is w f said Vector e = by-table in_b w f said Vector f.lane e refl refl
-  in_family_is w f said Saturating e = by-table in_c w f said Saturating f.lane e refl refl
+  in_family_is w f said ByElement e = by_table in_a w f said ByElement f.lane e refl refl
+  in_family_is w f said Vector e = by_table in_b w f said Vector f.lane e refl refl
+  in_family_is w f said Saturating e = by_table in_c w f said Saturating f.lane e refl refl
   in_family_is w f said LongLong e =
       ⊎_elim
-      (λ (l : f.lane ≡ 8). rw l (by-table in_d w f said LongLong 8 e l refl))
-      (λ (l : f.lane ≡ 16). rw l (by-table in_d_with_z w f said LongLong 16 e l refl))
+      (λ (l : f.lane ≡ 8). rw l (by_table in_d w f said LongLong 8 e l refl))
+      (λ (l : f.lane ≡ 16). rw l (by_table in_d_with_z w f said LongLong 16 e l refl))
       (in_family f (in_range w f said) LongLong e).1
-  in_family_is w f said Long e = by-table in_e w f said Long f.lane e refl refl
+  in_family_is w f said Long e = by_table in_e w f said Long f.lane e refl refl
 
   every : EveryWord s z za
   every w f said = in_family_is w f said f.family refl
 
-  of-table : WordsOfTable s z za
+  of_table : WordsOfTable s z za
   unfolding describe
-  of-table = (
+  of_table = (
     (every 0x2F726820 _ refl, (every 0x2FA26820 _ refl, tt)),
     (
       (every 0x0E228020 _ refl, tt),
@@ -133,6 +133,6 @@ module _ (s : Settings) (z za : List ℕ) (r : Ready s z za) where
 pub enabled_and_permitted : EnabledAndPermitted
 enabled_and_permitted =
     record {
-      table_holds = λ s z za v p q. of-table s z za (record { valid = v; z_long = p; za_long = q });
+      table_holds = λ s z za v p q. of_table s z za (record { valid = v; z_long = p; za_long = q });
       every_word = λ s z za v p q. every s z za (record { valid = v; z_long = p; za_long = q });
     }

@@ -14,13 +14,13 @@ use Rattle.settings.specs.Valid.{valid_settings}
 use Rattle.settings.specs.declared.Refusal.{Refusal}
 use Rattle.settings.specs.declared.Refusal.TheVariants.{BadSettings, BadLength, ListEnds, BadNumber, TooManyWords, ExtraBytes}
 use Rattle.settings.specs.declared.Settings.{Settings}
-use Rattle.settings.proofs.Lengths.{valid-parts, vector-at_most, vector-bits}
+use Rattle.settings.proofs.Lengths.{valid_parts, vector_at_most, vector_bits}
 use Rattle.numbers.specs.Numbers.{put, puts, Numbers, all, fault, number_at, numbers_at}
 use Rattle.numbers.specs.declared.Read.{Read}
 use Rattle.numbers.specs.declared.Read.TheVariants.{Number, Fault}
-use Rattle.numbers.proofs.Shortest.{put-length_1, put-length_2}
-use Rattle.numbers.proofs.Places.{number_far, number_within, number-fault}
-use Rattle.numbers.proofs.Rows.{row_count, row_within, row_far, row-fault, put_lengths_few, row-place}
+use Rattle.numbers.proofs.Shortest.{put_length_1, put_length_2}
+use Rattle.numbers.proofs.Places.{number_far, number_within, number_fault}
+use Rattle.numbers.proofs.Rows.{row_count, row_within, row_far, row-fault, put_lengths_few, row_place}
 use Rattle.machine.specs.Execute.{right_lengths}
 use Rattle.runlist.specs.Plan.{Lent, Found, found, refused, Asked, most_words, ended_at, after_count, words_from, asking, z_length, z_from, settled_from, settings_of, headed, plan_of}
 use Rattle.runlist.proofs.Plans.{not-refused, z_right}
@@ -113,19 +113,19 @@ module _ (list : List ℕ) (lent : Lent) (a : Asked) where
         (λ h. not-refused a ListEnds at)
         (sym (z_exact list lent (settings_of head) at l) ∙ g)
 
-  parts-row : (m : Numbers) → numbers_at list 0 7 ≡ m → headed list lent m ≡ found a → PartsOf list lent a
+  parts_row : (m : Numbers) → numbers_at list 0 7 ≡ m → headed list lent m ≡ found a → PartsOf list lent a
   unfolding settled_from
-  parts-row (all head at) e =
+  parts_row (all head at) e =
       by_cond (valid_settings (settings_of head)) (cond (right_lengths (settings_of head) lent.z lent.za) (z_from list lent (settings_of head) at) (refused BadLength 0)) (refused BadSettings 0) (found a)
       (λ v. by_cond (right_lengths (settings_of head) lent.z lent.za) (z_from list lent (settings_of head) at) (refused BadLength 0) (found a)
       (λ l. parts_z head at e v l)
       (λ l. not-refused a BadLength 0))
       (λ v. not-refused a BadSettings 0)
-  parts-row (fault vs r p) e = not-refused a r p
+  parts_row (fault vs r p) e = not-refused a r p
 
   pub parts_of : plan_of list lent ≡ found a → PartsOf list lent a
   unfolding plan_of
-  parts_of = parts-row (numbers_at list 0 7) refl
+  parts_of = parts_row (numbers_at list 0 7) refl
 
 -- ---- what holds of a refused list
 
@@ -161,7 +161,7 @@ module _ (list : List ℕ) (lent : Lent) (Q : Refusal → ℕ → Type 0) (c : C
       (λ k. by_end p n (numbers_at list p n) (number_within list at n p e).inside refl)
       (λ k. c.report n (leb-true n most_words t) (leb-false (4 * n) lent.report k)))
       (λ t. c.many at h)
-  by_count at (Fault r p) h e = let f = number-fault list at r p e in of_number r p (omega arith) f.1
+  by_count at (Fault r p) h e = let f = number_fault list at r p e in of_number r p (omega arith) f.1
 
   by-asking : (s : Settings) (bytes : List ℕ) (w : Found (List ℕ)) → Refusing Q w → Refusing Q (asking s bytes w)
   by-asking s bytes (found ws) h = tt
@@ -194,13 +194,13 @@ module _ (list : List ℕ) (lent : Lent) (Q : Refusal → ℕ → Type 0) (c : C
 
 module _ (s : Settings) (v : valid_settings s ≡ true) where
   features_few : s.features.0 < 32
-  features_few = ltb-true s.features.0 32 (all_three (ltb s.features.0 32) _ _ (valid-parts s v).1).0
+  features_few = ltb-true s.features.0 32 (all_three (ltb s.features.0 32) _ _ (valid_parts s v).1).0
 
   modes_few : s.modes.0 < 4
-  modes_few = ltb-true s.modes.0 4 (all_three (ltb s.modes.0 4) _ _ (valid-parts s v).2).0
+  modes_few = ltb-true s.modes.0 4 (all_three (ltb s.modes.0 4) _ _ (valid_parts s v).2).0
 
   length_few : s.vl ≤ 512
-  length_few = omega (arith, vector-at_most s v, vector-bits s v)
+  length_few = omega (arith, vector_at_most s v, vector_bits s v)
 
 -- valid settings make VL's number two bytes at most, and those of features and modes one
 head_few : (head : List ℕ) → length head ≡ 7 → valid_settings (settings_of head) ≡ true → length (puts head) ≤ 2 + 1 + 1 + 4 * 5
@@ -210,9 +210,9 @@ head_few (x ∷ []) e v = omega arith
 head_few (x ∷ y ∷ []) e v = omega arith
 head_few (x ∷ y ∷ w ∷ ws) e v =
     let s : Settings = settings_of (x ∷ y ∷ w ∷ ws) in
-    let a = put-length_2 x (omega (arith, length_few s v)) in
-    let b = put-length_1 y (omega (arith, features_few s v)) in
-    let c = put-length_1 w (omega (arith, modes_few s v)) in
+    let a = put_length_2 x (omega (arith, length_few s v)) in
+    let b = put_length_1 y (omega (arith, features_few s v)) in
+    let c = put_length_1 w (omega (arith, modes_few s v)) in
     omega (arith, put_lengths_few ws, length-append (put x) (puts (y ∷ w ∷ ws)), length-append (put y) (puts (w ∷ ws)), length-append (put w) (puts ws))
 
 module _ (list t : List ℕ) where
@@ -233,7 +233,7 @@ module _ (list t : List ℕ) where
       (λ _.
       let few = leb-true n most_words k in
       let w = number_within list at n p e in
-      let room-left : p + 5 * n < length list = omega (arith, w.long, put-length_2 n (omega arith)) in
+      let room-left : p + 5 * n < length list = omega (arith, w.long, put_length_2 n (omega arith)) in
       ap (ended_at (list ++ t)) (row_far list t p n (omega arith)) ∙ far_end (numbers_at list p n) p n room-left refl))
   far_count lent at (Fault r p) h e = refl
 
@@ -250,19 +250,19 @@ module _ (list t : List ℕ) where
       (far_words lent (at + lent.z) h))
       ∙ sym (z_exact list lent s at l)
 
-  far-row : (lent : Lent) (m : Numbers) → longest < length list → numbers_at list 0 7 ≡ m → headed (list ++ t) lent m ≡ headed list lent m
+  far_row : (lent : Lent) (m : Numbers) → longest < length list → numbers_at list 0 7 ≡ m → headed (list ++ t) lent m ≡ headed list lent m
   unfolding settled_from
-  far-row lent (all head at) h e =
+  far_row lent (all head at) h e =
       cond_then (valid_settings (settings_of head)) _ _ (refused BadSettings 0)
       (λ v. cond_then (right_lengths (settings_of head) lent.z lent.za) _ _ (refused BadLength 0)
       (λ l.
-      let begins = row-place list 0 7 head at e in
+      let begins = row_place list 0 7 head at e in
       let short = head_few head (row_count list 0 7 head at e) v in
-      let bytes = vector-at_most (settings_of head) v in
+      let bytes = vector_at_most (settings_of head) v in
       let is = z_right (settings_of head) lent l in
       far_z lent (settings_of head) at l (omega arith)))
-  far-row lent (fault vs r p) h e = refl
+  far_row lent (fault vs r p) h e = refl
 
   pub far : (lent : Lent) → longest < length list → plan_of (list ++ t) lent ≡ plan_of list lent
   unfolding plan_of
-  far lent h = ap (headed (list ++ t) lent) (row_far list t 0 7 (omega arith)) ∙ far-row lent (numbers_at list 0 7) h refl
+  far lent h = ap (headed (list ++ t) lent) (row_far list t 0 7 (omega arith)) ∙ far_row lent (numbers_at list 0 7) h refl

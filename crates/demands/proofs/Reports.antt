@@ -21,7 +21,7 @@ use Rattle.machine.proofs.Executing.{is_ready, still_ready}
 use Rattle.runlist.specs.Plan.{lengths_of, Found, found, refused, Asked, plan_of}
 use Rattle.runlist.specs.RunList.{fours, carried_out, run_paper}
 use Rattle.demands.specs.Reports.{led_to, turn_of, four_at, ZeroThreeFour, InTurn, AllInTurn, ReportsAre}
-use Rattle.demands.proofs.Execution.{accepted_exactly, refused_in_order, refused_keeps, lengths-kept}
+use Rattle.demands.proofs.Execution.{accepted_exactly, refused_in_order, refused_keeps, lengths_kept}
 use Rattle.demands.proofs.Lists.{lengths_hold}
 
 -- ---- a run, word by word
@@ -36,12 +36,12 @@ next_state each (w ∷ ws) z za zero h = (refl, refl)
 next_state each (w ∷ ws) z za (suc i) h = next_state each ws (each w z za).z (each w z za).za i (omega arith)
 
 -- and its report says what became of it there
-report-at : (each : PerWord) (ws z za : List ℕ) (i : ℕ) (d : Report) → i < length ws
+report_at : (each : PerWord) (ws z za : List ℕ) (i : ℕ) (d : Report) → i < length ws
     → get_or (run_of each ws z za).reports i d ≡ report_of (each (get_or ws i 0) (run_of each (take i ws) z za).z (run_of each (take i ws) z za).za)
 unfolding run_of
-report-at each [] z za i d h = absurd (omega arith)
-report-at each (w ∷ ws) z za zero d h = refl
-report-at each (w ∷ ws) z za (suc i) d h = report-at each ws (each w z za).z (each w z za).za i d (omega arith)
+report_at each [] z za i d h = absurd (omega arith)
+report_at each (w ∷ ws) z za zero d h = refl
+report_at each (w ∷ ws) z za (suc i) d h = report_at each ws (each w z za).z (each w z za).za i d (omega arith)
 
 -- a report for each word
 as_many : (each : PerWord) (ws z za : List ℕ) → length (run_of each ws z za).reports ≡ length ws
@@ -56,16 +56,16 @@ unfolding fours
 length-fours [] = refl
 length-fours (r ∷ rs) = omega (arith, length-fours rs)
 
-four-at : (rs : List Report) (rest : List ℕ) (i : ℕ) (d : Report) → i < length rs → four_at (fours rs ++ rest) i ≡ get_or rs i d
+four_at_lem : (rs : List Report) (rest : List ℕ) (i : ℕ) (d : Report) → i < length rs → four_at (fours rs ++ rest) i ≡ get_or rs i d
 unfolding fours
-four-at [] rest i d h = absurd (omega arith)
-four-at (r ∷ rs) rest zero d h = refl
-four-at (r ∷ rs) rest (suc i) d h =
+four_at_lem [] rest i d h = absurd (omega arith)
+four_at_lem (r ∷ rs) rest zero d h = refl
+four_at_lem (r ∷ rs) rest (suc i) d h =
     let fourth : 4 * suc i + 3 ≡ suc (suc (suc (suc (4 * i + 3)))) = omega arith in
     let third : 4 * suc i + 2 ≡ suc (suc (suc (suc (4 * i + 2)))) = omega arith in
     let second : 4 * suc i + 1 ≡ suc (suc (suc (suc (4 * i + 1)))) = omega arith in
     let first : 4 * suc i ≡ suc (suc (suc (suc (4 * i)))) = omega arith in
-    rw (fourth, third, second, first) (four-at rs rest i d (omega arith))
+    rw (fourth, third, second, first) (four_at_lem rs rest i d (omega arith))
 
 -- ---- a word of an accepted list is accepted, or refused with 3 or 4
 
@@ -84,18 +84,18 @@ module _ (s : Settings) (w : ℕ) (z za : List ℕ) (r : Ready s z za) where
       let k = (refused_in_order s w z za).by_word r.valid r.z_long r.za_long (decode_paper s w).0 refl (eqb-false _ _ e) in
       inr (inl (ap (λ (o : Outcome). o.number) k.0 ∙ k.1))
 
-  zero_three-four : ZeroThreeFour (execute_paper s w z za).number
-  zero_three-four = by_word (eqb (decode_paper s w).0 0) refl
+  zero_three_four : ZeroThreeFour (execute_paper s w z za).number
+  zero_three_four = by_word (eqb (decode_paper s w).0 0) refl
 
 -- every word of a run finds Z and ZA of the right lengths
-ready-there : (s : Settings) (ws z za : List ℕ) (i : ℕ) → Ready s z za
+ready_there : (s : Settings) (ws z za : List ℕ) (i : ℕ) → Ready s z za
     → Ready s (run_of (execute_paper s) (take i ws) z za).z (run_of (execute_paper s) (take i ws) z za).za
 unfolding run_of
-ready-there s ws z za zero r = r
-ready-there s [] z za (suc i) r = r
-ready-there s (w ∷ ws) z za (suc i) r =
-    let k = lengths-kept s w z za in
-    ready-there s ws (execute_paper s w z za).z (execute_paper s w z za).za i (still_ready s z za _ _ r k.0 k.1)
+ready_there s ws z za zero r = r
+ready_there s [] z za (suc i) r = r
+ready_there s (w ∷ ws) z za (suc i) r =
+    let k = lengths_kept s w z za in
+    ready_there s ws (execute_paper s w z za).z (execute_paper s w z za).za i (still_ready s z za _ _ r k.0 k.1)
 
 -- ---- the whole list
 
@@ -111,13 +111,13 @@ module _ (a : Asked) (za report : List ℕ) (r : Ready a.settings a.z za) where
       let o : Outcome = turn_of a za i in
       let each = execute_paper a.settings in
       let says : four_at left i ≡ report_of o =
-      four-at run.reports (drop (4 * length a.words) report) i (0, 0, 0, 0) (omega (arith, as_many each a.words a.z za))
-      ∙ report-at each a.words a.z za i (0, 0, 0, 0) h in
+      four_at_lem run.reports (drop (4 * length a.words) report) i (0, 0, 0, 0) (omega (arith, as_many each a.words a.z za))
+      ∙ report_at each a.words a.z za i (0, 0, 0, 0) h in
       let on = next_state each a.words a.z za i h in
       let number : (four_at left i).0 ≡ o.number = ap (λ (x : Report). x.0) says in
       record {
         says = says;
-        refusal = subst ZeroThreeFour (sym number) (zero_three-four a.settings _ _ _ (ready-there a.settings a.words a.z za i r));
+        refusal = subst ZeroThreeFour (sym number) (zero_three_four a.settings _ _ _ (ready_there a.settings a.words a.z za i r));
         refused =
             λ n. let k = refused_keeps a.settings (get_or a.words i 0) (led_to a za i).z (led_to a za i).za (λ e. n (number ∙ e)) in (
               (ap (λ (x : Report). x.1) says ∙ k.2, ap (λ (x : Report). x.2) says ∙ k.3, ap (λ (x : Report). x.3) says ∙ k.4),
@@ -126,19 +126,19 @@ module _ (a : Asked) (za report : List ℕ) (r : Ready a.settings a.z za) where
         goes_on = on;
       }
 
-  length-left : length (fours run.reports) ≡ 4 * length a.words
-  length-left = length-fours run.reports ∙ ap (λ (n : ℕ). 4 * n) (as_many (execute_paper a.settings) a.words a.z za)
+  length_left : length (fours run.reports) ≡ 4 * length a.words
+  length_left = length-fours run.reports ∙ ap (λ (n : ℕ). 4 * n) (as_many (execute_paper a.settings) a.words a.z za)
 
   left_long : 4 * length a.words ≤ length report → length left ≡ length report
   left_long room =
       length-append (fours run.reports) (drop (4 * length a.words) report)
-      ∙ omega (arith, length-left, length-drop (4 * length a.words) report, room)
+      ∙ omega (arith, length_left, length-drop (4 * length a.words) report, room)
 
   rest_stays : (i : ℕ) → 4 * length a.words ≤ i → get_or left i 0 ≡ get_or report i 0
   rest_stays i h =
       let n : ℕ = 4 * length a.words in
       let k : ℕ = i - n in
-      let at : i ≡ length (fours run.reports) + k = omega (arith, length-left, h) in
+      let at : i ≡ length (fours run.reports) + k = omega (arith, length_left, h) in
       let there : n + k ≡ i = omega (arith, h) in
       ap (λ (j : ℕ). get_or left j 0) at
       ∙ get_or-append-add (fours run.reports) (drop n report) k 0

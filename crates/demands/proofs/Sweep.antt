@@ -24,19 +24,19 @@ use Rattle.demands.specs.Sweep.{there, undo_paper}
 use Rattle.demands.specs.Sweep.{AcceptedInTurn, NotSaturating, SourcesApart, NotItsOwnSource, of_partner, SweepCloses}
 use Rattle.demands.specs.Sweep.{ClearIfV, DestinationClear, ClearInTurn, ClearAt128}
 use Rattle.demands.specs.Sweep.{BothAccept, UndoAccepts, PartnersAccepted}
-use Rattle.demands.proofs.Execution.{accepted_exactly, accepted_steps, lengths-kept, bytes-kept}
+use Rattle.demands.proofs.Execution.{accepted_exactly, accepted_steps, lengths_kept, bytes_kept}
 use Rattle.demands.proofs.Undoing.{undone_from, step_back}
 
 -- ---- a step of the way back, by the answer of `partner`
 
 module _ (s : Settings) (w : ℕ) (z za : List ℕ) where
-  pub undo-word : (v : ℕ) → (0, v) ≡ partner_paper s w → execute_paper s v z za ≡ undo_paper s w z za
+  pub undo_word : (v : ℕ) → (0, v) ≡ partner_paper s w → execute_paper s v z za ≡ undo_paper s w z za
   unfolding undo_paper
-  undo-word v e = ap (λ (p : ℕ × ℕ). cond (eqb p.0 0) (execute_paper s p.1 z za) (refused_with p.0 z za)) e
+  undo_word v e = ap (λ (p : ℕ × ℕ). cond (eqb p.0 0) (execute_paper s p.1 z za) (refused_with p.0 z za)) e
 
-  pub undo-refused : (n : ℕ) → (n, 0) ≡ partner_paper s w → n ≢ 0 → refused_with n z za ≡ undo_paper s w z za
+  pub undo_refused : (n : ℕ) → (n, 0) ≡ partner_paper s w → n ≢ 0 → refused_with n z za ≡ undo_paper s w z za
   unfolding undo_paper
-  undo-refused n e h =
+  undo_refused n e h =
       cond_ne n 0 _ _ _ h refl
       ∙ ap (λ (p : ℕ × ℕ). cond (eqb p.0 0) (execute_paper s p.1 z za) (refused_with p.0 z za)) e
 
@@ -50,7 +50,7 @@ module _ (s : Settings) (w : ℕ) (z za : List ℕ) where
   partner_in_turn : (f : Fields) → Accepted s w f z za → PartnerOf s w (partner_word w) f → Accepted s (partner_word w) (turned f) (execute_paper s w z za).z (execute_paper s w z za).za
   unfolding turned
   partner_in_turn f a p =
-      let l = lengths-kept s w z za in
+      let l = lengths_kept s w z za in
       record {
         valid = a.valid;
         z_exact = l.0 ∙ a.z_exact;
@@ -87,14 +87,14 @@ unfolding run_of
 way_back s [] acc z za z₀ za₀ before bz bza a c p h e = e
 way_back s (w ∷ ws) acc z za z₀ za₀ before bz bza a c p h e =
     let o : Outcome = execute_paper s w z za in
-    let b = bytes-kept s w z za bz bza in
+    let b = bytes_kept s w z za bz bza in
     way_back s ws (w ∷ acc) o.z o.za z₀ za₀ (of_partner (report_of o) ∷ before) b.0 b.1 a.1 c.1 p.1 h.1
     (ap (λ (u : Outcome). report_first u (run_of (undo_paper s) acc u.z u.za)) (word_undone s w z za bz bza a.0 c.0 p.0 h.0)
     ∙ ap (report_first (undone_from o z za)) e)
 
-pub sweep-closes : SweepCloses
+pub sweep_closes : SweepCloses
 unfolding run_of
-sweep-closes s ws z za bz bza a c p h = way_back s ws [] z za z za [] bz bza a c p h refl
+sweep_closes s ws z za bz bza a c p h = way_back s ws [] z za z za [] bz bza a c p h refl
 
 -- ---- VL 128
 
@@ -109,9 +109,9 @@ of_family s f z Saturating e = tt
 of_family s f z LongLong e = tt
 of_family s f z Long e = tt
 
-pub clear-at_128 : ClearAt128
-clear-at_128 s [] z za e = tt
-clear-at_128 s (w ∷ ws) z za e = (λ f d. of_family s f z f.family e, clear-at_128 s ws (execute_paper s w z za).z (execute_paper s w z za).za e)
+pub clear_at_128 : ClearAt128
+clear_at_128 s [] z za e = tt
+clear_at_128 s (w ∷ ws) z za e = (λ f d. of_family s f z f.family e, clear_at_128 s ws (execute_paper s w z za).z (execute_paper s w z za).za e)
 
 -- ---- the partners
 
@@ -130,9 +130,9 @@ undo_accepts s w z za =
 abbrev Zero : Report → Type 0
 Zero r = r.0 ≡ 0
 
-zeros-back : (rs before : List Report) → Each Zero before → Each Zero (reverse_aux (map of_partner rs) before)
-zeros-back [] before h = h
-zeros-back (r ∷ rs) before h = zeros-back rs (of_partner r ∷ before) (refl, h)
+zeros_back : (rs before : List Report) → Each Zero before → Each Zero (reverse_aux (map of_partner rs) before)
+zeros_back [] before h = h
+zeros_back (r ∷ rs) before h = zeros_back rs (of_partner r ∷ before) (refl, h)
 
 by_reports : (each : PerWord) (ws z za : List ℕ) → Each Zero (run_of each ws z za).reports → AcceptedInTurn each ws z za
 unfolding run_of
@@ -142,4 +142,4 @@ by_reports each (w ∷ ws) z za h = (h.0, by_reports each ws (each w z za).z (ea
 pub partners_accepted : PartnersAccepted
 partners_accepted s ws z za e =
     by_reports (undo_paper s) (reverse ws) (there s ws z za).z (there s ws z za).za
-    (subst (λ (r : Run). Each Zero r.reports) (sym e) (zeros-back (there s ws z za).reports [] tt))
+    (subst (λ (r : Run). Each Zero r.reports) (sym e) (zeros_back (there s ws z za).reports [] tt))

@@ -29,7 +29,7 @@ use Rattle.demands.specs.Sweep.{SourcesApart, ClearIfV, of_partner}
 use Rattle.demands.specs.SweepExamples.{Given, sweep_settings, start_z, start_za, Answer, sweep_answer, own_first, own_second, saturates, unknown, wrong_mode, wide, not_clear, into_za}
 use Rattle.demands.specs.SweepExamples.{answers_hold}
 use Rattle.demands.specs.SweepExamples.{closing, ClosesFrom, AllBytes, AllAccepted, NoneSaturating, NoneItsOwnSource, AllClear, Met, AllMet, StaysOpen, EachNeeded}
-use Rattle.demands.proofs.Sweep.{sweep-closes, clear-at_128}
+use Rattle.demands.proofs.Sweep.{sweep_closes, clear_at_128}
 
 first_number : List Report → ℕ
 first_number [] = 0
@@ -60,8 +60,8 @@ nth : ℕ → List Answer → Answer
 nth n answers = get_or answers n (record { start = 0; after = 0; returned = 0; forward = []; backward = [] })
 
 -- what holds of a word's fields
-by-fields : (d : ℕ × Fields) (P : Fields → Type 0) → P d.1 → (f : Fields) → d ≡ (0, f) → P f
-by-fields d P p f e = subst P (ap (λ (x : ℕ × Fields). x.1) e) p
+by_fields : (d : ℕ × Fields) (P : Fields → Type 0) → P d.1 → (f : Fields) → d ≡ (0, f) → P f
+by_fields d P p f e = subst P (ap (λ (x : ℕ × Fields). x.1) e) p
 
 -- and of a word that has none
 no_fields : (d : ℕ × Fields) (P : Fields → Type 0) → d.0 ≢ 0 → (f : Fields) → d ≡ (0, f) → P f
@@ -88,8 +88,8 @@ apart : (d n m : ℕ) → eqb d n ≡ false → eqb d m ≡ false → (d ≢ n) 
 apart d n m p q = (eqb-false d n p, eqb-false d m q)
 
 -- register d, of w bytes, is clear from byte 16 on
-clear-by : (s : Settings) (d w : ℕ) (z : List ℕ) → vector_bytes s ≡ w → take (w - 16) (drop (d * w + 16) z) ≡ zeros (w - 16) → ClearAbove s d z
-clear-by s d w z ew e i l h =
+clear_by : (s : Settings) (d w : ℕ) (z : List ℕ) → vector_bytes s ≡ w → take (w - 16) (drop (d * w + 16) z) ≡ zeros (w - 16) → ClearAbove s d z
+clear_by s d w z ew e i l h =
     let j : ℕ = i - 16 in
     let at : d * vector_bytes s + i ≡ d * w + 16 + j = rw ew (omega arith) in
     let short : j < w - 16 = omega arith in
@@ -110,29 +110,29 @@ met g accepted wrapping sources clear = (
   wrapping,
   sources,
   clear,
-  sweep-closes (sweep_settings g) g.words (start_z g) (start_za g) (all_bytes g).0 (all_bytes g).1 accepted wrapping sources clear,
+  sweep_closes (sweep_settings g) g.words (start_z g) (start_za g) (all_bytes g).0 (all_bytes g).1 accepted wrapping sources clear,
 )
 
 -- at VL 128 nothing is asked of Z
 clear_128 : (g : Given) → g.vl ≡ 128 → AllClear g
-clear_128 g e = clear-at_128 (sweep_settings g) g.words (start_z g) (start_za g) e
+clear_128 g e = clear_at_128 (sweep_settings g) g.words (start_z g) (start_za g) e
 
 pub all_met : AllMet
 unfolding decode_paper decode_enabled describe enables valid_settings vector_bytes array_bytes execute_paper stepped z_after
     new_register renewed laid new_bytes vector low_bytes vector_at
 all_met = (
   met closing (refl, (refl, tt))
-      (by-fields (decoded closing 0x0E228020) Wraps ((not_c _).1 refl), (by-fields (decoded closing 0x0E208023) Wraps ((not_c _).1 refl), tt))
-      (by-fields (decoded closing 0x0E228020) Sources (apart 0 1 2 refl refl), (by-fields (decoded closing 0x0E208023) Sources (apart 3 1 0 refl refl), tt))
+      (by_fields (decoded closing 0x0E228020) Wraps ((not_c _).1 refl), (by_fields (decoded closing 0x0E208023) Wraps ((not_c _).1 refl), tt))
+      (by_fields (decoded closing 0x0E228020) Sources (apart 0 1 2 refl refl), (by_fields (decoded closing 0x0E208023) Sources (apart 3 1 0 refl refl), tt))
       (clear_128 closing refl),
   met wide (refl, tt)
-      (by-fields (decoded wide 0x0E228020) Wraps ((not_c _).1 refl), tt)
-      (by-fields (decoded wide 0x0E228020) Sources (apart 0 1 2 refl refl), tt)
-      (by-fields (decoded wide 0x0E228020) (Clear wide (start_z wide)) (clear-by (sweep_settings wide) 0 32 (start_z wide) refl refl), tt),
+      (by_fields (decoded wide 0x0E228020) Wraps ((not_c _).1 refl), tt)
+      (by_fields (decoded wide 0x0E228020) Sources (apart 0 1 2 refl refl), tt)
+      (by_fields (decoded wide 0x0E228020) (Clear wide (start_z wide)) (clear_by (sweep_settings wide) 0 32 (start_z wide) refl refl), tt),
   met into_za (refl, tt)
-      (by-fields (decoded into_za 0xC1A20008) Wraps ((not_c _).1 refl), tt)
-      (by-fields (decoded into_za 0xC1A20008) Sources tt, tt)
-      (by-fields (decoded into_za 0xC1A20008) (Clear into_za (start_z into_za)) tt, tt),
+      (by_fields (decoded into_za 0xC1A20008) Wraps ((not_c _).1 refl), tt)
+      (by_fields (decoded into_za 0xC1A20008) Sources tt, tt)
+      (by_fields (decoded into_za 0xC1A20008) (Clear into_za (start_z into_za)) tt, tt),
 )
 
 pub each_needed : EachNeeded
@@ -141,13 +141,13 @@ unfolding nth first_number decode_paper decode_enabled describe enables valid_se
 each_needed =
     record {
       not_its_first =
-          stays_open own_first _ ((refl, tt), (by-fields (decoded own_first 0x0E228021) Wraps ((not_c _).1 refl), tt), clear_128 own_first refl)
+          stays_open own_first _ ((refl, tt), (by_fields (decoded own_first 0x0E228021) Wraps ((not_c _).1 refl), tt), clear_128 own_first refl)
           (moved 2 1 0 own_first _ (ap (nth 1) answers_hold) (λ (e : ◌≡◌ {A = ℕ} 0x0100 0x0101). omega arith));
       not_its_second =
-          stays_open own_second _ ((refl, tt), (by-fields (decoded own_second 0x0E228022) Wraps ((not_c _).1 refl), tt), clear_128 own_second refl)
+          stays_open own_second _ ((refl, tt), (by_fields (decoded own_second 0x0E228022) Wraps ((not_c _).1 refl), tt), clear_128 own_second refl)
           (moved 2 2 0 own_second _ (ap (nth 2) answers_hold) (λ (e : ◌≡◌ {A = ℕ} 0x0100 0x0101). omega arith));
       not_saturating =
-          stays_open saturates _ ((refl, tt), (by-fields (decoded saturates 0x44BA3820) Sources tt, tt), clear_128 saturates refl)
+          stays_open saturates _ ((refl, tt), (by_fields (decoded saturates 0x44BA3820) Sources tt, tt), clear_128 saturates refl)
           (refused 4 0 0 saturates _ (ap (nth 3) answers_hold) (λ (e : ◌≡◌ {A = ℕ} 6 0). omega arith));
       not_refused_3 =
           stays_open unknown _ (
@@ -158,16 +158,16 @@ each_needed =
           (refused 2 0 0 unknown _ (ap (nth 4) answers_hold) (λ (e : ◌≡◌ {A = ℕ} 3 0). omega arith));
       not_refused_4 =
           stays_open wrong_mode _ (
-            (by-fields (decoded wrong_mode 0x0E228020) Wraps ((not_c _).1 refl), tt),
-            (by-fields (decoded wrong_mode 0x0E228020) Sources (apart 0 1 2 refl refl), tt),
+            (by_fields (decoded wrong_mode 0x0E228020) Wraps ((not_c _).1 refl), tt),
+            (by_fields (decoded wrong_mode 0x0E228020) Sources (apart 0 1 2 refl refl), tt),
             clear_128 wrong_mode refl,
           )
           (refused 2 0 0 wrong_mode _ (ap (nth 5) answers_hold) (λ (e : ◌≡◌ {A = ℕ} 4 0). omega arith));
       clear_above =
           stays_open not_clear _ (
             (refl, tt),
-            (by-fields (decoded not_clear 0x0E228020) Wraps ((not_c _).1 refl), tt),
-            (by-fields (decoded not_clear 0x0E228020) Sources (apart 0 1 2 refl refl), tt),
+            (by_fields (decoded not_clear 0x0E228020) Wraps ((not_c _).1 refl), tt),
+            (by_fields (decoded not_clear 0x0E228020) Sources (apart 0 1 2 refl refl), tt),
           )
           (moved 2 0 8 not_clear _ (ap (nth 6) answers_hold) (λ (e : ◌≡◌ {A = ℕ} 0 0x0101). omega arith));
     }

@@ -18,20 +18,20 @@ use Rattle.numbers.proofs.Places.{number_put}
 use Rattle.numbers.proofs.Rows.{row_count}
 use Rattle.numbers.proofs.Forms.{number_form, row_form, row_put}
 use Rattle.runlist.specs.Plan.{Lent, Found, found, Asked, ended_at, words_from, asking, settled_from, settings_of, headed, plan_of}
-use Rattle.runlist.proofs.Plans.{words_counted, z-read}
+use Rattle.runlist.proofs.Plans.{words_counted, z_read}
 use Rattle.demands.specs.Lists.{longest, FitsLent, numbers_of, list_of, Askable, WrittenIsRead, OneList, LongestReached}
 use Rattle.demands.specs.ListExamples.{lent_with, before_count, most_asked, MostWords}
 use Rattle.demands.proofs.Reading.{parts_of}
 
 -- ---- settings and their seven numbers
 
-settings-back : (s : Settings) → length s.select ≡ 4 → settings_of (numbers_of s) ≡ s
+settings_back : (s : Settings) → length s.select ≡ 4 → settings_of (numbers_of s) ≡ s
 unfolding settings_of elements
-settings-back s h = ap (λ (l : List ℕ). record { vl = s.vl; features = s.features; modes = s.modes; select = l }) (elements_are 4 0 s.select (sym h))
+settings_back s h = ap (λ (l : List ℕ). record { vl = s.vl; features = s.features; modes = s.modes; select = l }) (elements_are 4 0 s.select (sym h))
 
-numbers-back : (head : List ℕ) → length head ≡ 7 → numbers_of (settings_of head) ≡ head
+numbers_back : (head : List ℕ) → length head ≡ 7 → numbers_of (settings_of head) ≡ head
 unfolding settings_of elements
-numbers-back head h = elements_are 7 0 head (sym h)
+numbers_back head h = elements_are 7 0 head (sym h)
 
 -- ---- there is one way to write it
 
@@ -41,7 +41,7 @@ one_list list lent a e =
     let m = parts_of list lent a e in
     let w = m.words_are in
     let numbers : m.head ≡ numbers_of a.settings =
-    sym (ap numbers_of m.settings_are ∙ numbers-back m.head (row_count list 0 7 m.head m.at m.header)) in
+    sym (ap numbers_of m.settings_are ∙ numbers_back m.head (row_count list 0 7 m.head m.at m.header)) in
     let behind : drop m.at list ≡ a.z ++ drop (m.at + lent.z) list =
     sym (take-append-drop lent.z (drop m.at list)) ∙ ap₂ (λ (x y : List ℕ). x ++ y) (sym m.z_are) (drop-drop lent.z m.at list) in
     let count : drop (m.at + lent.z) list ≡ put (length a.words) ++ drop w.from list = number_form list (m.at + lent.z) (length a.words) w.from w.count in
@@ -71,33 +71,33 @@ module _ (lent : Lent) (a : Asked) (k : Askable lent a) where
       to_count ∙ sym (append_assoc (head ++ a.z) (put (length a.words)) (puts a.words))
       ∙ ap (λ (t : List ℕ). ((head ++ a.z) ++ put (length a.words)) ++ t) (sym (append-nil (puts a.words)))
 
-  count-place : length (head ++ a.z) ≡ length head + lent.z
-  count-place = length-append head a.z ∙ ap (λ (n : ℕ). length head + n) k.fits.z_bytes
+  count_place : length (head ++ a.z) ≡ length head + lent.z
+  count_place = length-append head a.z ∙ ap (λ (n : ℕ). length head + n) k.fits.z_bytes
 
-  words-place : ℕ
-  words-place = length ((head ++ a.z) ++ put (length a.words))
+  words_place : ℕ
+  words_place = length ((head ++ a.z) ++ put (length a.words))
 
   small_count : length a.words < 4294967296
   small_count = omega (arith, k.fits.few)
 
-  count_is : number_at (list_of a) (length head + lent.z) ≡ Number (length a.words) words-place
-  unfolding words-place behind
+  count_is : number_at (list_of a) (length head + lent.z) ≡ Number (length a.words) words_place
+  unfolding words_place behind
   count_is =
-      ap₂ number_at to_count (sym count-place) ∙ number_put (head ++ a.z) (length a.words) (puts a.words) small_count
+      ap₂ number_at to_count (sym count_place) ∙ number_put (head ++ a.z) (length a.words) (puts a.words) small_count
       ∙ ap (Number (length a.words)) (sym (length-append (head ++ a.z) (put (length a.words))))
 
-  words_are : numbers_at (list_of a) words-place (length a.words) ≡ all a.words (length (list_of a))
-  unfolding words-place
+  words_are : numbers_at (list_of a) words_place (length a.words) ≡ all a.words (length (list_of a))
+  unfolding words_place
   words_are =
-      ap (λ (l : List ℕ). numbers_at l words-place (length a.words)) to_words
+      ap (λ (l : List ℕ). numbers_at l words_place (length a.words)) to_words
       ∙ row_put ((head ++ a.z) ++ put (length a.words)) a.words [] k.words
       ∙ ap (all a.words)
-      (sym (ap length to_words ∙ length-append ((head ++ a.z) ++ put (length a.words)) (puts a.words ++ []) ∙ ap (λ (l : List ℕ). words-place + length l) (append-nil (puts a.words))))
+      (sym (ap length to_words ∙ length-append ((head ++ a.z) ++ put (length a.words)) (puts a.words ++ []) ∙ ap (λ (l : List ℕ). words_place + length l) (append-nil (puts a.words))))
 
-  words-read : found a.words ≡ words_from (list_of a) lent (length head + lent.z)
-  words-read =
+  words_read : found a.words ≡ words_from (list_of a) lent (length head + lent.z)
+  words_read =
       sym (ap (ended_at (list_of a)) words_are ∙ simp (eq-eqb (length (list_of a)) (length (list_of a)) refl))
-      ∙ words_counted (list_of a) lent (length head + lent.z) (length a.words) words-place count_is k.fits.few k.fits.reported
+      ∙ words_counted (list_of a) lent (length head + lent.z) (length a.words) words_place count_is k.fits.few k.fits.reported
 
   header_is : numbers_at (list_of a) 0 7 ≡ all (numbers_of a.settings) (length head)
   unfolding list_of head behind
@@ -112,18 +112,18 @@ module _ (lent : Lent) (a : Asked) (k : Askable lent a) where
       sym (ap (take lent.z) (drop-append_seam head (a.z ++ behind)) ∙ take_at a.z behind lent.z k.fits.z_bytes)
 
   inside : length head + lent.z ≤ length (list_of a)
-  inside = omega (arith, ap length to_count, length-append (head ++ a.z) behind, count-place)
+  inside = omega (arith, ap length to_count, length-append (head ++ a.z) behind, count_place)
 
   is_read : plan_of (list_of a) lent ≡ found a
   unfolding plan_of
   is_read =
       ap (headed (list_of a) lent) header_is
-      ∙ ap (λ (s : Settings). settled_from (list_of a) lent s (length head)) (settings-back a.settings k.four)
-      ∙ sym (z-read (list_of a) lent a.settings (length head) k.fits.valid k.fits.exact inside)
-      ∙ ap₂ (λ (y : List ℕ) (w : Found (List ℕ)). asking a.settings y w) (sym z_is) (sym words-read)
+      ∙ ap (λ (s : Settings). settled_from (list_of a) lent s (length head)) (settings_back a.settings k.four)
+      ∙ sym (z_read (list_of a) lent a.settings (length head) k.fits.valid k.fits.exact inside)
+      ∙ ap₂ (λ (y : List ℕ) (w : Found (List ℕ)). asking a.settings y w) (sym z_is) (sym words_read)
 
-pub written_is-read : WrittenIsRead
-written_is-read lent a k = is_read lent a k
+pub written_is_read : WrittenIsRead
+written_is_read lent a k = is_read lent a k
 
 -- ---- lists filled with one number
 
@@ -146,7 +146,7 @@ alike_read : (vl features modes w : ℕ) (b : List ℕ) (n x : ℕ) (lent : Lent
     → plan_of (list_of (alike vl features modes w b n x)) lent ≡ found (alike vl features modes w b n x)
 unfolding alike
 alike_read vl features modes w b n x lent hv hf hm hw hx fits =
-    written_is-read lent (alike vl features modes w b n x)
+    written_is_read lent (alike vl features modes w b n x)
     record {
       fits = fits;
       four = refl;
@@ -159,9 +159,9 @@ alike_read vl features modes w b n x lent hv hf hm hw hx fits =
 longest_asked : Asked
 longest_asked = alike 512 0 0 4294967295 (replicate 2048 0) 1024 4294967295
 
-longest-read : plan_of (list_of longest_asked) (record { z = 2048; za = 4096; report = 4096 }) ≡ found longest_asked
+longest_read : plan_of (list_of longest_asked) (record { z = 2048; za = 4096; report = 4096 }) ≡ found longest_asked
 unfolding longest_asked alike valid_settings vector_bytes array_bytes
-longest-read =
+longest_read =
     alike_read 512 0 0 4294967295 (replicate 2048 0) 1024 4294967295 (record { z = 2048; za = 4096; report = 4096 }) (lit< tt) (lit< tt) (lit< tt) (lit< tt) (lit< tt)
     record { valid = refl; exact = refl; z_bytes = refl; few = lit≤ tt; reported = lit≤ tt }
 
@@ -170,17 +170,17 @@ unfolding longest_asked alike list_of puts put put_in
 longest_long = refl
 
 pub longest_reached : LongestReached
-longest_reached = (longest_asked, longest-read, longest_long)
+longest_reached = (longest_asked, longest_read, longest_long)
 
 -- ---- row 15: 1,024 words
 
-most-written : before_count ++ 0x80 ∷ 0x08 ∷ replicate 1024 0x00 ≡ list_of most_asked
+most_written : before_count ++ 0x80 ∷ 0x08 ∷ replicate 1024 0x00 ≡ list_of most_asked
 unfolding settings_of list_of puts put put_in
-most-written = refl
+most_written = refl
 
 pub most_words_lem : MostWords
 unfolding alike settings_of valid_settings vector_bytes array_bytes
 most_words_lem =
-    ap (λ (l : List ℕ). plan_of l (lent_with 4096)) most-written
+    ap (λ (l : List ℕ). plan_of l (lent_with 4096)) most_written
     ∙ alike_read 128 12 3 0 (replicate 512 0x01) 1024 0 (lent_with 4096) (lit< tt) (lit< tt) (lit< tt) (lit< tt) (lit< tt)
     record { valid = refl; exact = refl; z_bytes = refl; few = lit≤ tt; reported = lit≤ tt }

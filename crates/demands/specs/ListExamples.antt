@@ -67,22 +67,22 @@ abbrev first_za : List ℕ
 first_za = (run_paper (before_count ++ 0x01 ∷ take 5 three_words) lent_z lent_za (lent_report 4)).za
 
 -- the first word leaves −1 in each element of vectors 0 to 3 and 8 to 11, which the third takes back
-words-run : (paper_run 12 ≡ paper_ran []) × (paper_run 14 ≡ paper_ran (77 ∷ 77 ∷ []))
+words_run : (paper_run 12 ≡ paper_ran []) × (paper_run 14 ≡ paper_ran (77 ∷ 77 ∷ []))
     × (first_za ≡ replicate 64 0xFF ++ replicate 64 0x00 ++ replicate 64 0xFF ++ replicate 64 0x00)
 unfolding run_paper plan_of settings_of settled_from z_from words_from numbers_at number_at numeral run_of tallied fours
     execute_paper stepped decode_paper decode_enabled describe enables valid_settings vector_bytes array_bytes
     za_after new_vector writes_vector some_below first_vector selected stride new_bytes new_element renewed vector_at vector element_at low_bytes
     step lane_step accumulate product s_int int_of low over_bits over_bytes
-words-run = (refl, refl, refl)
+words_run = (refl, refl, refl)
 
-no_words-run : run_paper (before_count ++ 0x00 ∷ []) lent_z lent_za [] ≡ ran_with 0 no_tally []
+no_words_run : run_paper (before_count ++ 0x00 ∷ []) lent_z lent_za [] ≡ ran_with 0 no_tally []
 unfolding run_paper plan_of settings_of settled_from z_from words_from numbers_at number_at numeral run_of tallied fours valid_settings vector_bytes array_bytes
-no_words-run = refl
+no_words_run = refl
 
 -- a refused list: every lent buffer keeps its contents
-empty_list-run : run_paper [] lent_z lent_za (lent_report 2) ≡ refused_at 7 0 lent_z lent_za (lent_report 2)
+empty_list_run : run_paper [] lent_z lent_za (lent_report 2) ≡ refused_at 7 0 lent_z lent_za (lent_report 2)
 unfolding run_paper plan_of numbers_at number_at numeral
-empty_list-run = refl
+empty_list_run = refl
 
 -- Z and ZA as long as VL 128 asks for, and a report of n numbers
 abbrev pub lent_with : ℕ → Lent

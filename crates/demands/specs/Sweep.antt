@@ -1,6 +1,6 @@
 -- Demand 3: from where a run of words ends, their partners in reverse order lead back to its start. Its own words stand in quotation marks.
 -- Statements only: proofs/Sweep.antt proves each. A word is any number, so also one of 32 bits; its partner then has 32 bits too
--- (`partner-fits` in words).
+-- (`partner_fits` in words).
 use Rattle.std.specs.Prelude.{ℕ, ◌≡◌, ◌≢◌, ◌↔◌, cond, List, [], ◌∷◌, map, reverse, eqb}
 use Rattle.laws.specs.Lists.{Each}
 use Rattle.settings.specs.declared.Settings.{Settings}

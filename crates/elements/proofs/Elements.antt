@@ -19,8 +19,8 @@ pub pow256 : (k : ℕ) → 256 ^ k ≡ 2 ^ (8 * k)
 pow256 zero = refl
 pow256 (suc k) = rw (pow-suc, pow256 k, mul-suc 8 k, pow-add)
 
-pub pow256-pos : (k : ℕ) → 0 < 256 ^ k
-pow256-pos k = one-le-pow k 256 (lit< tt)
+pub pow256_pos : (k : ℕ) → 0 < 256 ^ k
+pow256_pos k = one-le-pow k 256 (lit< tt)
 
 -- ---- bytes of lists made of lists
 
@@ -89,24 +89,24 @@ element_at_lt (suc k) at s b =
     rw pow-suc (omega (arith, element_at_lt k at s b, mul-le-mul_right {m = g} {n = 255} (256 ^ k) (omega arith)))
 
 -- two places hold the same number where they hold the same bytes
-pub element_at-same : (k a b : ℕ) (s t : List ℕ) → ((i : ℕ) → i < k → get_or s (a + i) 0 ≡ get_or t (b + i) 0) → element_at k a s ≡ element_at k b t
+pub element_at_same : (k a b : ℕ) (s t : List ℕ) → ((i : ℕ) → i < k → get_or s (a + i) 0 ≡ get_or t (b + i) 0) → element_at k a s ≡ element_at k b t
 unfolding element_at
-element_at-same zero a b s t h = refl
-element_at-same (suc k) a b s t h = rw (element_at-same k a b s t (λ i q. h i (omega arith)), h k (le_refl (suc k)))
+element_at_same zero a b s t h = refl
+element_at_same (suc k) a b s t h = rw (element_at_same k a b s t (λ i q. h i (omega arith)), h k (le_refl (suc k)))
 
 pub element_at-drop : (k at d : ℕ) (s : List ℕ) → element_at k at (drop d s) ≡ element_at k (d + at) s
-element_at-drop k at d s = element_at-same k at (d + at) (drop d s) s (λ i q. rw (get_or-drop, add_assoc))
+element_at-drop k at d s = element_at_same k at (d + at) (drop d s) s (λ i q. rw (get_or-drop, add_assoc))
 
 pub element_at-take : (k at w : ℕ) (s : List ℕ) → at + k ≤ w → element_at k at (take w s) ≡ element_at k at s
-element_at-take k at w s h = element_at-same k at at (take w s) s (λ i q. get_or-take w s (at + i) 0 (omega arith))
+element_at-take k at w s h = element_at_same k at at (take w s) s (λ i q. get_or-take w s (at + i) 0 (omega arith))
 
 -- the digits of v are v
-element_at-digits : (k at v : ℕ) (s : List ℕ) → ((i : ℕ) → i < k → get_or s (at + i) 0 ≡ v / 256 ^ i % 256) → element_at k at s ≡ v % 256 ^ k
+element_at_digits : (k at v : ℕ) (s : List ℕ) → ((i : ℕ) → i < k → get_or s (at + i) 0 ≡ v / 256 ^ i % 256) → element_at k at s ≡ v % 256 ^ k
 unfolding element_at
-element_at-digits zero at v s h = sym (mod-one v)
-element_at-digits (suc k) at v s h =
-    let p = mod-mul v {m = 256} {c = 256 ^ k} (lit< tt) (pow256-pos k) in
-    rw (element_at-digits k at v s (λ i q. h i (omega arith)), h k (le_refl (suc k)), pow-suc, mul_comm (256 ^ k) 256) (omega arith)
+element_at_digits zero at v s h = sym (mod-one v)
+element_at_digits (suc k) at v s h =
+    let p = mod-mul v {m = 256} {c = 256 ^ k} (lit< tt) (pow256_pos k) in
+    rw (element_at_digits k at v s (λ i q. h i (omega arith)), h k (le_refl (suc k)), pow-suc, mul_comm (256 ^ k) 256) (omega arith)
 
 -- ---- a write
 
@@ -117,37 +117,37 @@ put_add j zero at v s = rw add-zero
 put_add j (suc k) at v s = rw (add-suc, put_add j k at v s, add_assoc, pow-add, div-div-eq-div-mul)
 
 module _ (at v : ℕ) (s : List ℕ) where
-  pub length-put : (k : ℕ) → length (put_at k at v s) ≡ length s
+  pub length_put : (k : ℕ) → length (put_at k at v s) ≡ length s
   unfolding put_at
-  length-put zero = refl
-  length-put (suc k) = simp (length-set, length-put k)
+  length_put zero = refl
+  length_put (suc k) = simp (length-set, length_put k)
 
   -- each byte: before, after, and in the place that is written
-  put-before : (k i : ℕ) → i < at → get_or (put_at k at v s) i 0 ≡ get_or s i 0
+  put_before : (k i : ℕ) → i < at → get_or (put_at k at v s) i 0 ≡ get_or s i 0
   unfolding put_at
-  put-before zero i h = refl
-  put-before (suc k) i h = get_or-set_other (put_at k at v s) (at + k) i (v / 256 ^ k % 256) 0 (λ (e : i ≡ at + k). omega arith) ∙ put-before k i h
+  put_before zero i h = refl
+  put_before (suc k) i h = get_or-set_other (put_at k at v s) (at + k) i (v / 256 ^ k % 256) 0 (λ (e : i ≡ at + k). omega arith) ∙ put_before k i h
 
-  pub put-after : (k i : ℕ) → at + k ≤ i → get_or (put_at k at v s) i 0 ≡ get_or s i 0
+  pub put_after : (k i : ℕ) → at + k ≤ i → get_or (put_at k at v s) i 0 ≡ get_or s i 0
   unfolding put_at
-  put-after zero i h = refl
-  put-after (suc k) i h = get_or-set_other (put_at k at v s) (at + k) i (v / 256 ^ k % 256) 0 (λ (e : i ≡ at + k). omega arith) ∙ put-after k i (omega arith)
+  put_after zero i h = refl
+  put_after (suc k) i h = get_or-set_other (put_at k at v s) (at + k) i (v / 256 ^ k % 256) 0 (λ (e : i ≡ at + k). omega arith) ∙ put_after k i (omega arith)
 
   put_in : (k i : ℕ) → at + k ≤ length s → i < k → get_or (put_at k at v s) (at + i) 0 ≡ v / 256 ^ i % 256
   unfolding put_at
   put_in (suc k) i r h =
       ⊎_elim
-      (λ (q : i ≡ k). rw q (get_or-set_same (put_at k at v s) (at + k) (v / 256 ^ k % 256) 0 (rw (length-put k) (omega arith))))
+      (λ (q : i ≡ k). rw q (get_or-set_same (put_at k at v s) (at + k) (v / 256 ^ k % 256) 0 (rw (length_put k) (omega arith))))
       (λ (q : i < k). get_or-set_other (put_at k at v s) (at + k) (at + i) (v / 256 ^ k % 256) 0 (λ (e : at + i ≡ at + k). omega arith) ∙ put_in k i (omega arith) q)
       (eq-or-lt_of_le (omega arith))
   put_in zero i r h = absurd (omega arith)
 
   -- read after write: the same place, and a place before or after
-  pub element_at-put : (k : ℕ) → at + k ≤ length s → element_at k at (put_at k at v s) ≡ v % 256 ^ k
-  element_at-put k r = element_at-digits k at v (put_at k at v s) (λ i q. put_in k i r q)
+  pub element_at_put : (k : ℕ) → at + k ≤ length s → element_at k at (put_at k at v s) ≡ v % 256 ^ k
+  element_at_put k r = element_at_digits k at v (put_at k at v s) (λ i q. put_in k i r q)
 
-  pub element_at-put-before : (k j b : ℕ) → b + j ≤ at → element_at j b (put_at k at v s) ≡ element_at j b s
-  element_at-put-before k j b h = element_at-same j b b (put_at k at v s) s (λ i q. put-before k (b + i) (omega arith))
+  pub element_at_put_before : (k j b : ℕ) → b + j ≤ at → element_at j b (put_at k at v s) ≡ element_at j b s
+  element_at_put_before k j b h = element_at_same j b b (put_at k at v s) s (λ i q. put_before k (b + i) (omega arith))
 
-  pub element_at-put-after : (k j b : ℕ) → at + k ≤ b → element_at j b (put_at k at v s) ≡ element_at j b s
-  element_at-put-after k j b h = element_at-same j b b (put_at k at v s) s (λ i q. put-after k (b + i) (omega arith))
+  pub element_at_put_after : (k j b : ℕ) → at + k ≤ b → element_at j b (put_at k at v s) ≡ element_at j b s
+  element_at_put_after k j b h = element_at_same j b b (put_at k at v s) s (λ i q. put_after k (b + i) (omega arith))

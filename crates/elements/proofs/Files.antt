@@ -47,11 +47,11 @@ module _ (at : ℕ) (x s : List ℕ) (fit : at + length x ≤ length s) where
       (take_at x (drop (at + length x) s) (length x) refl)
 
   -- byte by byte
-  pub splice-before : (i : ℕ) → i < at → get_or (splice at x s) i 0 ≡ get_or s i 0
-  splice-before i h = sym (get_or-take at (splice at x s) i 0 h) ∙ rw take-splice (get_or-take at s i 0 h)
+  pub splice_before : (i : ℕ) → i < at → get_or (splice at x s) i 0 ≡ get_or s i 0
+  splice_before i h = sym (get_or-take at (splice at x s) i 0 h) ∙ rw take-splice (get_or-take at s i 0 h)
 
-  pub splice-after : (i : ℕ) → at + length x ≤ i → get_or (splice at x s) i 0 ≡ get_or s i 0
-  splice-after i h =
+  pub splice_after : (i : ℕ) → at + length x ≤ i → get_or (splice at x s) i 0 ≡ get_or s i 0
+  splice_after i h =
       let j : ℕ = i - (at + length x) in
       let e : i ≡ at + length x + j = omega arith in
       rw e (sym (get_or-drop (at + length x) (splice at x s) j 0) ∙ rw drop-splice (get_or-drop (at + length x) s j 0))
@@ -66,8 +66,8 @@ part_same a w s t long h =
     get_or-take w (drop a s) i 0 p ∙ get_or-drop a s i 0 ∙ h i p ∙ sym (get_or-drop a t i 0) ∙ sym (get_or-take w (drop a t) i 0 p))
 
 -- two splices, one right behind the other, are one
-pub splice-behind : (at : ℕ) (x y s : List ℕ) → at + length x ≤ length s → splice (at + length x) y (splice at x s) ≡ splice at (x ++ y) s
-splice-behind at x y s fit =
+pub splice_behind : (at : ℕ) (x y s : List ℕ) → at + length x ≤ length s → splice (at + length x) y (splice at x s) ≡ splice at (x ++ y) s
+splice_behind at x y s fit =
     let t : List ℕ = splice at x s in
     let rest : drop (at + length x + length y) t ≡ drop (at + length x + length y) s =
     sym (drop-drop (length y) (at + length x) t) ∙ ap (drop (length y)) (drop-splice at x s fit) ∙ drop-drop (length y) (at + length x) s in
@@ -88,21 +88,21 @@ module _ (w v : ℕ) (x s : List ℕ) (long : length x ≡ w) (fit : (v + 1) * w
   fits : v * w + length x ≤ length s
   fits = omega (arith, next v w)
 
-  vector_at-splice-same : vector_at w v (splice (v * w) x s) ≡ x
+  vector_at-splice_same : vector_at w v (splice (v * w) x s) ≡ x
   unfolding vector_at
-  vector_at-splice-same = ap (λ (k : ℕ). take k (drop (v * w) (splice (v * w) x s))) (sym long) ∙ part-splice (v * w) x s fits
+  vector_at-splice_same = ap (λ (k : ℕ). take k (drop (v * w) (splice (v * w) x s))) (sym long) ∙ part-splice (v * w) x s fits
 
-  vector_at-splice_other : (u : ℕ) → u ≢ v → vector_at w u (splice (v * w) x s) ≡ vector_at w u s
+  vector_at_splice_other : (u : ℕ) → u ≢ v → vector_at w u (splice (v * w) x s) ≡ vector_at w u s
   unfolding vector_at
-  vector_at-splice_other u apart = part_same (u * w) w (splice (v * w) x s) s (length-splice (v * w) x s fits) (side (dec_le u v))
+  vector_at_splice_other u apart = part_same (u * w) w (splice (v * w) x s) s (length-splice (v * w) x s fits) (side (dec_le u v))
     where
       side : Dec (u ≤ v) → (i : ℕ) → i < w → get_or (splice (v * w) x s) (u * w + i) 0 ≡ get_or s (u * w + i) 0
       side (yes h) i q =
           ⊎_elim
           (λ (e : u ≡ v). absurd (apart e))
-          (λ (l : u < v). splice-before (v * w) x s fits (u * w + i) (omega (arith, within u v w l)))
+          (λ (l : u < v). splice_before (v * w) x s fits (u * w + i) (omega (arith, within u v w l)))
           (eq-or-lt_of_le h)
-      side (no h) i q = splice-after (v * w) x s fits (u * w + i) (omega (arith, within v u w (omega arith)))
+      side (no h) i q = splice_after (v * w) x s fits (u * w + i) (omega (arith, within v u w (omega arith)))
 
 -- ---- lists one after the other
 
@@ -147,12 +147,12 @@ module _ (writes : ℕ → Bool) (new : ℕ → List ℕ) (w n : ℕ) (s : List 
   Now v = cond (writes v) (new v) (vector_at w v s)
 
   module _ (long : length s ≡ n * w) (wide : (v : ℕ) → v < n → writes v ≡ true → length (new v) ≡ w) where
-    now-wide : (v : ℕ) → v < n → length (Now v) ≡ w
-    now-wide v h = cond-holds (λ (l : List ℕ). length l ≡ w) (writes v) (new v) (vector_at w v s) (wide v h) (λ q. length-vector_at w v s (room v n w s long h))
+    now_wide : (v : ℕ) → v < n → length (Now v) ≡ w
+    now_wide v h = cond-holds (λ (l : List ℕ). length l ≡ w) (writes v) (new v) (vector_at w v s) (wide v h) (λ q. length-vector_at w v s (room v n w s long h))
 
     pub vector_at-renewed : (v : ℕ) → v < n → vector_at w v (renewed writes new w n s) ≡ cond (writes v) (new v) (vector_at w v s)
     unfolding renewed
-    vector_at-renewed v h = vector_at-laid Now w n v h now-wide
+    vector_at-renewed v h = vector_at-laid Now w n v h now_wide
 
 -- only what is written counts
 pub renewed_cong : (writes : ℕ → Bool) (new new' : ℕ → List ℕ) (w n : ℕ) (s : List ℕ) → ((v : ℕ) → v < n → writes v ≡ true → new v ≡ new' v)
@@ -225,7 +225,7 @@ module _ (place : ℕ → ℕ) (new : ℕ → List ℕ) (w n : ℕ) (s : List �
   unfolding replaced
   replaced_out zero v P out = refl
   replaced_out (suc count) v P out =
-      vector_at-splice_other w (place count) (new count) (R count) (P.wide count (le_refl (suc count))) (next_room count P) v
+      vector_at_splice_other w (place count) (new count) (R count) (P.wide count (le_refl (suc count))) (next_room count P) v
       (λ e. out count (le_refl (suc count)) (sym e))
       ∙ replaced_out count v (fewer count P) (λ q h. out q (omega arith))
 
@@ -237,9 +237,9 @@ module _ (place : ℕ → ℕ) (new : ℕ → List ℕ) (w n : ℕ) (s : List �
   replaced_in (suc count) p P apart h =
       let wide = P.wide count (le_refl (suc count)) in
       ⊎_elim
-      (λ (e : p ≡ count). rw e (vector_at-splice-same w (place count) (new count) (R count) wide (next_room count P)))
+      (λ (e : p ≡ count). rw e (vector_at-splice_same w (place count) (new count) (R count) wide (next_room count P)))
       (λ (l : p < count).
-      vector_at-splice_other w (place count) (new count) (R count) wide (next_room count P) (place p)
+      vector_at_splice_other w (place count) (new count) (R count) wide (next_room count P) (place p)
       (λ (e : place p ≡ place count). let same = apart p count h (le_refl (suc count)) e in omega arith)
       ∙ replaced_in count p (fewer count P) (λ a b ha hb e. apart a b (omega arith) (omega arith) e) l)
       (eq-or-lt_of_le (omega arith))

@@ -9,12 +9,12 @@ use Rattle.laws.proofs.Tests.{one_of_three}
 use Rattle.elements.specs.Lanes.{IsLane, Choice, each, segment_start, chosen, chosen_at, Reaches}
 
 -- what holds of each lane holds of any
-pub by-lane : (P : ℕ → Type 0) → P 8 → P 16 → P 32 → (n : ℕ) → IsLane n → P n
-by-lane P = one_of_three P 8 16 32
+pub by_lane : (P : ℕ → Type 0) → P 8 → P 16 → P 32 → (n : ℕ) → IsLane n → P n
+by_lane P = one_of_three P 8 16 32
 
 -- a lane that has neither 8 nor 16 bits
-pub last-lane : (n : ℕ) → IsLane n → (n ≡ 8 → ⊥) → (n ≡ 16 → ⊥) → n ≡ 32
-last-lane = by-lane (λ n. (n ≡ 8 → ⊥) → (n ≡ 16 → ⊥) → n ≡ 32) (λ f g. absurd (f refl)) (λ f g. absurd (g refl)) (λ f g. refl)
+pub last_lane : (n : ℕ) → IsLane n → (n ≡ 8 → ⊥) → (n ≡ 16 → ⊥) → n ≡ 32
+last_lane = by_lane (λ n. (n ≡ 8 → ⊥) → (n ≡ 16 → ⊥) → n ≡ 32) (λ f g. absurd (f refl)) (λ f g. absurd (g refl)) (λ f g. refl)
 
 -- a lane of 16 or 32 bits that has not 16
 pub wider-lane : {lane : ℕ} → (lane ≡ 16) ⊎ (lane ≡ 32) → (lane ≡ 16 → ⊥) → lane ≡ 32
@@ -24,16 +24,16 @@ wider-lane (inr e) n = e
 -- ---- every lane that is chosen lies in its register
 
 module _ (lane : ℕ) (l : IsLane lane) where
-  start-rises : (segmented : Bool) (e d : ℕ) → e ≤ d → cond segmented (segment_start lane e) e ≤ cond segmented (segment_start lane d) d
-  start-rises true e d h = by-lane (λ n. segment_start n e ≤ segment_start n d) (omega arith) (omega arith) (omega arith) lane l
-  start-rises false e d h = h
+  start_rises : (segmented : Bool) (e d : ℕ) → e ≤ d → cond segmented (segment_start lane e) e ≤ cond segmented (segment_start lane d) d
+  start_rises true e d h = by_lane (λ n. segment_start n e ≤ segment_start n d) (omega arith) (omega arith) (omega arith) lane l
+  start_rises false e d h = h
 
   -- what goes into a later element lies no earlier
-  chosen-rises : (c : Choice) (e d : ℕ) → e ≤ d → chosen lane c e ≤ chosen lane c d
-  chosen-rises c e d h = omega (arith, mul-le-mul_left c.by (start-rises c.segmented e d h))
+  chosen_rises : (c : Choice) (e d : ℕ) → e ≤ d → chosen lane c e ≤ chosen lane c d
+  chosen_rises c e d h = omega (arith, mul-le-mul_left c.by (start_rises c.segmented e d h))
 
   pub chosen_inside : (c : Choice) (n w : ℕ) → Reaches lane c n w → (e : ℕ) → e < n → chosen_at lane c e + lane / 8 ≤ w
-  chosen_inside c n w r e h = omega (arith, mul-le-mul_right (lane / 8) (chosen-rises c e (n - 1) (omega arith)))
+  chosen_inside c n w r e h = omega (arith, mul-le-mul_right (lane / 8) (chosen_rises c e (n - 1) (omega arith)))
 
 -- ---- lanes at even steps
 
@@ -42,5 +42,5 @@ pub chosen-from : (lane by from e : ℕ) → chosen_at lane (each by from) e ≡
 chosen-from lane by from e = omega arith
 
 -- so many bytes from one to the next
-pub chosen-step : (lane by e j : ℕ) → chosen_at lane (each by 0) (e + j) ≡ chosen_at lane (each by 0) e + j * (by * (lane / 8))
-chosen-step lane by e j = omega arith
+pub chosen_step : (lane by e j : ℕ) → chosen_at lane (each by 0) (e + j) ≡ chosen_at lane (each by 0) e + j * (by * (lane / 8))
+chosen_step lane by e j = omega arith

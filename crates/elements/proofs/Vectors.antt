@@ -11,7 +11,7 @@ use lib.Seq.{set_at, set-get_or, drop-cons, drop-drop, length-take-le}
 use lib.Arith.{digits_div, digits_mod, mod-mul}
 use lib.Dec.{lit<}
 use Rattle.elements.specs.Elements.{element_at, element, put_at, low_bytes, vector, splice}
-use Rattle.elements.proofs.Elements.{Bytes, Bytes_append, Bytes-low_bytes, pow256-pos, element_at_lt, length-put, put-after, element_at-put, element_at-put-before}
+use Rattle.elements.proofs.Elements.{Bytes, Bytes_append, Bytes-low_bytes, pow256_pos, element_at_lt, length_put, put_after, element_at_put, element_at_put_before}
 
 -- each of count elements ends within them
 pub within : (e count k : ℕ) → e < count → e * k + k ≤ count * k
@@ -60,24 +60,24 @@ module _ (f : ℕ → ℕ) (k base : ℕ) (s : List ℕ) where
   pub length-put_each : (n : ℕ) → length (put_each f k base n s) ≡ length s
   unfolding put_each
   length-put_each zero = refl
-  length-put_each (suc n) = length-put _ _ _ k ∙ length-put_each n
+  length-put_each (suc n) = length_put _ _ _ k ∙ length-put_each n
 
-  pub put_each-after : (n i : ℕ) → base + n * k ≤ i → get_or (put_each f k base n s) i 0 ≡ get_or s i 0
+  pub put_each_after : (n i : ℕ) → base + n * k ≤ i → get_or (put_each f k base n s) i 0 ≡ get_or s i 0
   unfolding put_each
-  put_each-after zero i h = refl
-  put_each-after (suc n) i h =
+  put_each_after zero i h = refl
+  put_each_after (suc n) i h =
       let q = suc-mul n k in
-      put-after (base + n * k) (f n) (W n) k i (omega arith) ∙ put_each-after n i (omega arith)
+      put_after (base + n * k) (f n) (W n) k i (omega arith) ∙ put_each_after n i (omega arith)
 
   -- element e of what is written is f e
-  put_each-element : (n e : ℕ) → e < n → base + n * k ≤ length s → element_at k (base + e * k) (put_each f k base n s) ≡ f e % 256 ^ k
+  put_each_element : (n e : ℕ) → e < n → base + n * k ≤ length s → element_at k (base + e * k) (put_each f k base n s) ≡ f e % 256 ^ k
   unfolding put_each
-  put_each-element zero e h r = absurd (omega arith)
-  put_each-element (suc n) e h r =
+  put_each_element zero e h r = absurd (omega arith)
+  put_each_element (suc n) e h r =
       let q = suc-mul n k in
       ⊎_elim
-      (λ (p : e ≡ n). rw p (element_at-put (base + n * k) (f n) (W n) k (rw (length-put_each n) (omega arith))))
-      (λ (p : e < n). element_at-put-before (base + n * k) (f n) (W n) k k (base + e * k) (omega (arith, within e n k p)) ∙ put_each-element n e p (omega arith))
+      (λ (p : e ≡ n). rw p (element_at_put (base + n * k) (f n) (W n) k (rw (length-put_each n) (omega arith))))
+      (λ (p : e < n). element_at_put_before (base + n * k) (f n) (W n) k k (base + e * k) (omega (arith, within e n k p)) ∙ put_each_element n e p (omega arith))
       (eq-or-lt_of_le (omega arith))
 
 put_append : (k v : ℕ) (p u : List ℕ) (at : ℕ) → length p ≡ at → k ≤ length u → put_at k at v (p ++ u) ≡ p ++ low_bytes k v ++ drop k u
@@ -118,7 +118,7 @@ put_each_end f k e n s out h l long eo =
 pub vector-element : (f : ℕ → ℕ) (k n e : ℕ) → e < n → element k (vector f k n) e ≡ f e % 256 ^ k
 vector-element f k n e h =
     let l = length-vector f k n in
-    rw (put_each-vector f k n (vector f k n) l, zero-add) at (put_each-element f k 0 (vector f k n) n e h (omega arith))
+    rw (put_each-vector f k n (vector f k n) l, zero-add) at (put_each_element f k 0 (vector f k n) n e h (omega arith))
 
 -- ---- a list is known by its elements
 
@@ -129,10 +129,10 @@ put_self zero at v s b e = refl
 put_self (suc k) at v s b e =
     let g : ℕ = get_or s (at + k) 0 in
     let q : ℕ = v / 256 ^ k % 256 in
-    let rl : v % 256 ^ k < 256 ^ k = mod-lt v (pow256-pos k) in
+    let rl : v % 256 ^ k < 256 ^ k = mod-lt v (pow256_pos k) in
     let ll = element_at_lt k at s b in
     let both : q * 256 ^ k + v % 256 ^ k ≡ g * 256 ^ k + element_at k at s =
-    sym (mod-mul v {m = 256} {c = 256 ^ k} (lit< tt) (pow256-pos k)) ∙ rw (mul_comm 256 (256 ^ k), ← pow-suc 256 k) (e ∙ add_comm _ _) in
+    sym (mod-mul v {m = 256} {c = 256 ^ k} (lit< tt) (pow256_pos k)) ∙ rw (mul_comm 256 (256 ^ k), ← pow-suc 256 k) (e ∙ add_comm _ _) in
     let low : v % 256 ^ k ≡ element_at k at s = sym (digits_mod q rl) ∙ ap (λ (x : ℕ). x % 256 ^ k) both ∙ digits_mod g ll in
     let high : q ≡ g = sym (digits_div q rl) ∙ ap (λ (x : ℕ). x / 256 ^ k) both ∙ digits_div g ll in
     rw (put_self k at v s b low, high) (set-get_or s (at + k) 0)
@@ -151,5 +151,5 @@ module _ (f : ℕ → ℕ) (k n : ℕ) (s : List ℕ) (by : Bytes s) (long : len
   vector_known = sym (put_each-vector f k n s long) ∙ unmoved n (le_refl n)
 
 -- the vector of a list's own elements is the list
-pub vector-own : (k n : ℕ) (s : List ℕ) → Bytes s → length s ≡ n * k → vector (element k s) k n ≡ s
-vector-own k n s by long = vector_known (element k s) k n s by long (λ e h. refl)
+pub vector_own : (k n : ℕ) (s : List ℕ) → Bytes s → length s ≡ n * k → vector (element k s) k n ≡ s
+vector_own k n s by long = vector_known (element k s) k n s by long (λ e h. refl)

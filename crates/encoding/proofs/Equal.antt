@@ -18,12 +18,12 @@ bool_eq true false e = sym e
 bool_eq false true e = e
 bool_eq false false e = refl
 
-bool-refl : (a : Bool) → beq a a ≡ true
-bool-refl true = refl
-bool-refl false = refl
+bool_refl : (a : Bool) → beq a a ≡ true
+bool_refl true = refl
+bool_refl false = refl
 
-number-refl : (a : ℕ) → eqb a a ≡ true
-number-refl a = eq-eqb a a refl
+number_refl : (a : ℕ) → eqb a a ≡ true
+number_refl a = eq-eqb a a refl
 
 same_eq : (f g : Fields) → same_of f g ≡ true → f ≡ g
 same_eq f g e =
@@ -53,7 +53,7 @@ same_eq f g e =
     λ i. record { family = family i; unsigned = unsigned i; subtract = subtract i; lane = lane i; part = part i; index = index i; destination = destination i; first = first i; second = second i; group = group i; select = select i; offset = offset i }
 
 same_refl : (f : Fields) → same_of f f ≡ true
-same_refl f = simp (bool-refl, number-refl)
+same_refl f = simp (bool_refl, number_refl)
 
 pub says_eq : (f : Fields) (d : Described) → says_only f d ≡ true → d ≡ As f
 says_eq f (As g) e = ap As (sym (same_eq f g e))
@@ -64,7 +64,7 @@ pub passes_has : (f : Fields) (w : ℕ) → w < 2 ^ 32 → says_only f (describe
 passes_has f w lt e = record { fits = lt; says = says_eq f (describe w) e }
 
 -- where the candidate does not pass it, no word has the fields
-pub fails-none : (f : Fields) → says_only f (describe (candidate_of f)) ≡ false → (w : ℕ) → Has f w → ⊥
-fails-none f e w h =
+pub fails_none : (f : Fields) → says_only f (describe (candidate_of f)) ≡ false → (w : ℕ) → Has f w → ⊥
+fails_none f e w h =
     let d : describe (candidate_of f) ≡ As f = ap describe (only f w h.fits h.says) ∙ h.says in
     never_both _ (same_refl f) (ap (says_only f) (sym d) ∙ e)

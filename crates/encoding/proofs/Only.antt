@@ -28,8 +28,8 @@ Undone w r = WhereSaid (λ (g : Fields). candidate_of g ≡ w) w r
 
 -- ---- the numbers of the fields
 
-lane-d : (x : ℕ) → x < 2 → (8 + 8 * x) / 16 % 2 ≡ x
-lane-d = one_bit (λ x. (8 + 8 * x) / 16 % 2 ≡ x) refl refl
+lane_d : (x : ℕ) → x < 2 → (8 + 8 * x) / 16 % 2 ≡ x
+lane_d = one_bit (λ x. (8 + 8 * x) / 16 % 2 ≡ x) refl refl
 
 lane_b_lem : (x : ℕ) → x < 4 → eqb x 3 ≡ false → 8 * 2 ^ x / 16 % 4 ≡ x
 lane_b_lem = by_size (λ x. 8 * 2 ^ x / 16 % 4 ≡ x) refl refl refl
@@ -47,8 +47,8 @@ join_second m low p q = omega arith
 -- ---- the rows
 
 module _ (w : ℕ) (lt : w < 2 ^ 32) where
-  one-row : (l : Layout) (vs : List ℕ) → size l ≡ 32 → matches l w ≡ true → Agrees l vs w → build l vs ≡ w
-  one-row l vs e m a = build_agrees l vs w m a ∙ mod-eq_of_lt (rw e lt)
+  one_row : (l : Layout) (vs : List ℕ) → size l ≡ 32 → matches l w ≡ true → Agrees l vs w → build l vs ≡ w
+  one_row l vs e m a = build_agrees l vs w m a ∙ mod-eq_of_lt (rw e lt)
 
   -- ss 01, and else ss 10
   a_undone : Undone w entry_a
@@ -57,11 +57,11 @@ module _ (w : ℕ) (lt : w < 2 ^ 32) where
       let unsigned = number_bit (value row_a w "U") (omega arith) in
       let subtract = number_bit (value row_a w "S") (omega arith) in
       cond-holds (λ (g : Fields). candidate_of g ≡ w) (eqb s 0b01) (fields_a16 (value row_a w)) (fields_a32 (value row_a w))
-      (λ e. one-row row_a (values_a16 (fields_a16 (value row_a w))) refl m
+      (λ e. one_row row_a (values_a16 (fields_a16 (value row_a w))) refl m
       (let size-01 = eqb-true s 0b01 e in
       let index = join3 (value row_a w "H") (value row_a w "L") (value row_a w "M") (omega arith) (omega arith) (omega arith) in
       omega arith))
-      (λ e. one-row row_a (values_a32 (fields_a32 (value row_a w))) refl m
+      (λ e. one_row row_a (values_a32 (fields_a32 (value row_a w))) refl m
       (let size-10 = either (eqb s 0b01) (eqb s 0b10) (not-false _ n) (λ y. absurd (never_both _ y e)) (λ y. eqb-true s 0b10 y) in
       let index = join2 (value row_a w "H") (value row_a w "L") (omega arith) (omega arith) in
       let second = join_second (value row_a w "M") (value row_a w "m") (omega arith) (omega arith) in
@@ -72,31 +72,31 @@ module _ (w : ℕ) (lt : w < 2 ^ 32) where
       let unsigned = number_bit (value row_b w "U") (omega arith) in
       let subtract = number_bit (value row_b w "S") (omega arith) in
       let lane = lane_b_lem (value row_b w "s") (omega arith) n in
-      one-row row_b (values_b (fields_b (value row_b w))) refl m (omega arith)
+      one_row row_b (values_b (fields_b (value row_b w))) refl m (omega arith)
 
   -- S stands at the same place in both rows of C; U and S in the four rows of D and E, and z in the two of D
   subtract_c : bit_of (is_one (value row_c16 w "S")) ≡ value row_c16 w "S"
   subtract_c = number_bit _ (omega arith)
 
-  unsigned-za : bit_of (is_one (value row_d2 w "U")) ≡ value row_d2 w "U"
-  unsigned-za = number_bit _ (omega arith)
+  unsigned_za : bit_of (is_one (value row_d2 w "U")) ≡ value row_d2 w "U"
+  unsigned_za = number_bit _ (omega arith)
 
-  subtract-za : bit_of (is_one (value row_d2 w "S")) ≡ value row_d2 w "S"
-  subtract-za = number_bit _ (omega arith)
+  subtract_za : bit_of (is_one (value row_d2 w "S")) ≡ value row_d2 w "S"
+  subtract_za = number_bit _ (omega arith)
 
-  lane-za : (8 + 8 * value row_d2 w "z") / 16 % 2 ≡ value row_d2 w "z"
-  lane-za = lane-d _ (omega arith)
+  lane_za : (8 + 8 * value row_d2 w "z") / 16 % 2 ≡ value row_d2 w "z"
+  lane_za = lane_d _ (omega arith)
 
   undone : Each (Undone w) table
   undone =
       a_undone
       then b_undone
-      then (λ m _. one-row row_c16 (values_c16 (fields_c 16 (value row_c16 w))) refl m (omega (arith, subtract_c)))
-      then (λ m _. one-row row_c32 (values_c32 (fields_c 32 (value row_c32 w))) refl m (omega (arith, subtract_c)))
-      then (λ m _. one-row row_d2 (values_d (fields_d 2 (value row_d2 w)) 2 16) refl m (omega (arith, unsigned-za, subtract-za, lane-za)))
-      then (λ m _. one-row row_d4 (values_d (fields_d 4 (value row_d4 w)) 4 8) refl m (omega (arith, unsigned-za, subtract-za, lane-za)))
-      then (λ m _. one-row row_e2 (values_e (fields_e 2 (value row_e2 w)) 2 16) refl m (omega (arith, unsigned-za, subtract-za)))
-      then (λ m _. one-row row_e4 (values_e (fields_e 4 (value row_e4 w)) 4 8) refl m (omega (arith, unsigned-za, subtract-za)))
+      then (λ m _. one_row row_c16 (values_c16 (fields_c 16 (value row_c16 w))) refl m (omega (arith, subtract_c)))
+      then (λ m _. one_row row_c32 (values_c32 (fields_c 32 (value row_c32 w))) refl m (omega (arith, subtract_c)))
+      then (λ m _. one_row row_d2 (values_d (fields_d 2 (value row_d2 w)) 2 16) refl m (omega (arith, unsigned_za, subtract_za, lane_za)))
+      then (λ m _. one_row row_d4 (values_d (fields_d 4 (value row_d4 w)) 4 8) refl m (omega (arith, unsigned_za, subtract_za, lane_za)))
+      then (λ m _. one_row row_e2 (values_e (fields_e 2 (value row_e2 w)) 2 16) refl m (omega (arith, unsigned_za, subtract_za)))
+      then (λ m _. one_row row_e4 (values_e (fields_e 4 (value row_e4 w)) 4 8) refl m (omega (arith, unsigned_za, subtract_za)))
       then tt
 
 -- a word with the fields f is the candidate of f

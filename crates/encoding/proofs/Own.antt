@@ -86,15 +86,15 @@ a f w vs fit o e =
     ∙ (answers f w).0 vs fit (ap (λ (x : ℕ). not (eqb x 0b01 || eqb x 0b10)) ss ∙ o) e
 
 -- B: the ss of each of its lanes is not reserved, and gives the lane back
-lane-back : (lane : ℕ) → lane_b lane ≡ true → (eqb (lane / 16 % 4) 0b11 ≡ false) × (8 * 2 ^ (lane / 16 % 4) ≡ lane)
-lane-back lane l =
+lane_back : (lane : ℕ) → lane_b lane ≡ true → (eqb (lane / 16 % 4) 0b11 ≡ false) × (8 * 2 ^ (lane / 16 % 4) ≡ lane)
+lane_back lane l =
     by_three lane 8 16 32 l (λ (n : ℕ). (eqb (n / 16 % 4) 0b11 ≡ false) × (8 * 2 ^ (n / 16 % 4) ≡ n)) (refl, refl) (refl, refl) (refl, refl)
 
 b : (f : Fields) (w : ℕ) → lane_b f.lane ≡ true → w ≡ build row_b (values_b f) → same_of f (by_vector (value row_b w) f.lane) ≡ says_only f (describe w)
 b f w l e =
     let fit : Fit row_b (values_b f) = omega (arith, u f, s f) in
     let ss : value row_b w "s" ≡ f.lane / 16 % 4 = ap third (built row_b (values_b f) w fit e).0 in
-    let back = lane-back f.lane l in
+    let back = lane_back f.lane l in
     ap (λ (lane : ℕ). same_of f (by_vector (value row_b w) lane)) (sym (ap (λ (x : ℕ). 8 * 2 ^ x) ss ∙ back.1))
     ∙ (answers f w).1.0 (values_b f) fit (ap (λ (x : ℕ). eqb x 0b11) ss ∙ back.0) e
 
@@ -110,20 +110,20 @@ one_of : (t : Bool) (w v u : ℕ) (p q r : Bool) → (w ≡ v → p ≡ r) → (
 one_of true w v u p q r k l e = k e
 one_of false w v u p q r k l e = l e
 
-own-by : (family : Family) (f : Fields) (w : ℕ) → w ≡ candidate_by family f → own_by family f w ≡ says_only f (describe w)
-own-by ByElement f w =
+own_by_lem : (family : Family) (f : Fields) (w : ℕ) → w ≡ candidate_by family f → own_by family f w ≡ says_only f (describe w)
+own_by_lem ByElement f w =
     one_of (eqb f.lane 16) w _ _ _ _ _ (a f w (values_a16 f) (omega (arith, u f, s f)) refl) (a f w (values_a32 f) (omega (arith, u f, s f)) refl)
-own-by Vector f w = λ e. cond-holds (λ (t : Bool). t ≡ says_only f (describe w)) (lane_b f.lane) _ _ (λ l. b f w l e) (no-lane f w)
-own-by Saturating f w =
+own_by_lem Vector f w = λ e. cond-holds (λ (t : Bool). t ≡ says_only f (describe w)) (lane_b f.lane) _ _ (λ l. b f w l e) (no-lane f w)
+own_by_lem Saturating f w =
     let (_, (_, (c16, (c32, _)))) = answers f w in
     one_of (eqb f.lane 16) w _ _ _ _ _ (c16 (values_c16 f) (omega (arith, s f)) refl) (c32 (values_c32 f) (omega (arith, s f)) refl)
-own-by LongLong f w =
+own_by_lem LongLong f w =
     let (_, (_, (_, (_, (d2, (d4, _)))))) = answers f w in
     one_of (eqb f.group 2) w _ _ _ _ _ (d2 (values_d f 2 16) (omega (arith, u f, s f)) refl) (d4 (values_d f 4 8) (omega (arith, u f, s f)) refl)
-own-by Long f w =
+own_by_lem Long f w =
     let (_, (_, (_, (_, (_, (_, (e2, (e4, _)))))))) = answers f w in
     one_of (eqb f.group 2) w _ _ _ _ _ (e2 (values_e f 2 16) (omega (arith, u f, s f)) refl) (e4 (values_e f 4 8) (omega (arith, u f, s f)) refl)
 
 -- the answer of the candidate's own row is the answer of the whole table
 pub own : (family : Family) (f : Fields) (w : ℕ) (r : Bool) → f.family ≡ family → w ≡ candidate_of f → r ≡ own_by family f w → r ≡ says_only f (describe w)
-own family f w r told e h = h ∙ own-by family f w (e ∙ ap (λ (x : Family). candidate_by x f) told)
+own family f w r told e h = h ∙ own_by_lem family f w (e ∙ ap (λ (x : Family). candidate_by x f) told)

@@ -4,12 +4,12 @@ use mathlib.Core.Path.{◌≡◌, refl, sym, ap, ◌∙◌}
 use native.Mathlib.Omega.{arith}
 use Rattle.laws.proofs.Tests.{never_both}
 use Rattle.settings.specs.declared.Settings.{Settings}
-use Rattle.settings.proofs.Refusals.{refused-not_0, refused_known}
+use Rattle.settings.proofs.Refusals.{refused_not_0, refused_known}
 use Rattle.words.specs.Says.{describe}
 use Rattle.words.specs.Decode.{decode_paper}
 use Rattle.words.specs.declared.Fields.{Fields}
 use Rattle.words.proofs.Answers.{Accepted, decodes_exactly}
-use Rattle.encoding.specs.Encode.{Encodes, bad-settings, no_word, not_enabled, a_word, Has, encoded_says}
+use Rattle.encoding.specs.Encode.{Encodes, bad_settings, no_word, not_enabled, a_word, Has, encoded_says}
 use Rattle.encoding.specs.declared.Encoded.{Encoded}
 use Rattle.encoding.specs.declared.Encoded.TheVariants.{Word, Refused}
 use Rattle.encoding.proofs.Only.{only}
@@ -21,19 +21,19 @@ pub one_word : (f : Fields) (v w : ℕ) → Has f v → Has f w → v ≡ w
 one_word f v w p q = sym (only f v p.fits p.says) ∙ only f w q.fits q.says
 
 pub encodes_unique : (s : Settings) (f : Fields) (a b : ℕ × ℕ) → Encodes s f a → Encodes s f b → a ≡ b
-encodes_unique s f a b (bad-settings p) (bad-settings q) = refl
-encodes_unique s f a b (bad-settings p) (no_word q _) = absurd (never_both _ q p)
-encodes_unique s f a b (bad-settings p) (not_enabled q _ _ _) = absurd (never_both _ q p)
-encodes_unique s f a b (bad-settings p) (a_word q _ _ _) = absurd (never_both _ q p)
-encodes_unique s f a b (no_word p _) (bad-settings q) = absurd (never_both _ p q)
+encodes_unique s f a b (bad_settings p) (bad_settings q) = refl
+encodes_unique s f a b (bad_settings p) (no_word q _) = absurd (never_both _ q p)
+encodes_unique s f a b (bad_settings p) (not_enabled q _ _ _) = absurd (never_both _ q p)
+encodes_unique s f a b (bad_settings p) (a_word q _ _ _) = absurd (never_both _ q p)
+encodes_unique s f a b (no_word p _) (bad_settings q) = absurd (never_both _ p q)
 encodes_unique s f a b (no_word _ _) (no_word _ _) = refl
 encodes_unique s f a b (no_word _ none) (not_enabled _ w h _) = absurd (none w h)
 encodes_unique s f a b (no_word _ none) (a_word _ w h _) = absurd (none w h)
-encodes_unique s f a b (not_enabled p _ _ _) (bad-settings q) = absurd (never_both _ p q)
+encodes_unique s f a b (not_enabled p _ _ _) (bad_settings q) = absurd (never_both _ p q)
 encodes_unique s f a b (not_enabled _ w h _) (no_word _ none) = absurd (none w h)
 encodes_unique s f a b (not_enabled _ _ _ _) (not_enabled _ _ _ _) = refl
 encodes_unique s f a b (not_enabled _ _ _ p) (a_word _ _ _ q) = absurd (never_both _ q p)
-encodes_unique s f a b (a_word p _ _ _) (bad-settings q) = absurd (never_both _ p q)
+encodes_unique s f a b (a_word p _ _ _) (bad_settings q) = absurd (never_both _ p q)
 encodes_unique s f a b (a_word _ w h _) (no_word _ none) = absurd (none w h)
 encodes_unique s f a b (a_word _ _ _ p) (not_enabled _ _ _ q) = absurd (never_both _ p q)
 encodes_unique s f a b (a_word _ v g _) (a_word _ w h _) = ap (λ (x : ℕ). (0, x)) (one_word f v w g h)
@@ -41,8 +41,8 @@ encodes_unique s f a b (a_word _ v g _) (a_word _ w h _) = ap (λ (x : ℕ). (0,
 -- the answer is known by its number and its word
 says_known : (r q : Encoded) → encoded_says r ≡ encoded_says q → r ≡ q
 says_known (Word v) (Word w) e = ap Word (ap (λ (a : ℕ × ℕ). a.1) e)
-says_known (Word v) (Refused q) e = absurd (refused-not_0 {A = ℕ} q 0 v (sym e))
-says_known (Refused r) (Word w) e = absurd (refused-not_0 {A = ℕ} r 0 w e)
+says_known (Word v) (Refused q) e = absurd (refused_not_0 {A = ℕ} q 0 v (sym e))
+says_known (Refused r) (Word w) e = absurd (refused_not_0 {A = ℕ} r 0 w e)
 says_known (Refused r) (Refused q) e = ap Refused (refused_known {A = ℕ} r q 0 0 e)
 
 -- any two answers that encode's promise allows are equal
@@ -52,19 +52,19 @@ encode_unique s f r q a b = says_known r q (encodes_unique s f (encoded_says r) 
 -- ---- encode and decode
 
 -- encode after decode gives the word
-pub encode-after_decode : (s : Settings) (w : ℕ) (f : Fields) (a : ℕ × ℕ) → w < 2 ^ 32 → decode_paper s w ≡ (0, f) → Encodes s f a → a ≡ (0, w)
-encode-after_decode s w f a lt e t =
+pub encode_after_decode : (s : Settings) (w : ℕ) (f : Fields) (a : ℕ × ℕ) → w < 2 ^ 32 → decode_paper s w ≡ (0, f) → Encodes s f a → a ≡ (0, w)
+encode_after_decode s w f a lt e t =
     let d = (decodes_exactly s w f).0 e in
     encodes_unique s f a (0, w) t (a_word d.valid w (record { fits = lt; says = d.says }) d.enabled)
 
 -- the answer with the number 0 is a word
 encoded_accepted : (s : Settings) (w : ℕ) (f : Fields) (a : ℕ × ℕ) → a ≡ (0, w) → Encodes s f a → Accepted s w f
-encoded_accepted s w f a e (bad-settings _) = absurd (omega (arith, ap (λ (a : ℕ × ℕ). a.0) e))
+encoded_accepted s w f a e (bad_settings _) = absurd (omega (arith, ap (λ (a : ℕ × ℕ). a.0) e))
 encoded_accepted s w f a e (no_word _ _) = absurd (omega (arith, ap (λ (a : ℕ × ℕ). a.0) e))
 encoded_accepted s w f a e (not_enabled _ _ _ _) = absurd (omega (arith, ap (λ (a : ℕ × ℕ). a.0) e))
 encoded_accepted s w f a e (a_word v x h n) =
     record { valid = v; says = ap describe (sym (ap (λ (a : ℕ × ℕ). a.1) e)) ∙ h.says; enabled = n }
 
 -- decode after encode gives the fields
-pub decode-after_encode : (s : Settings) (w : ℕ) (f : Fields) → Encodes s f (0, w) → decode_paper s w ≡ (0, f)
-decode-after_encode s w f t = (decodes_exactly s w f).1 (encoded_accepted s w f (0, w) refl t)
+pub decode_after_encode : (s : Settings) (w : ℕ) (f : Fields) → Encodes s f (0, w) → decode_paper s w ≡ (0, f)
+decode_after_encode s w f t = (decodes_exactly s w f).1 (encoded_accepted s w f (0, w) refl t)

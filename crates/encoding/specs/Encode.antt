@@ -21,7 +21,7 @@ pub record Has (f : Fields) (w : ℕ) : Type 0 where
 
 -- encode tests 1, 5, 3
 pub data Encodes (s : Settings) (f : Fields) : ℕ × ℕ → Type 0 where
-  bad-settings : valid_settings s ≡ false → Encodes s f (1, 0)
+  bad_settings : valid_settings s ≡ false → Encodes s f (1, 0)
   no_word : valid_settings s ≡ true → ((w : ℕ) → Has f w → ⊥) → Encodes s f (5, 0)
   not_enabled : valid_settings s ≡ true → (w : ℕ) → Has f w → enables s.features.0 f ≡ false → Encodes s f (3, 0)
   a_word : valid_settings s ≡ true → (w : ℕ) → Has f w → enables s.features.0 f ≡ true → Encodes s f (0, w)

@@ -21,7 +21,7 @@ use Rattle.spelling.specs.Print.{printed_says}
 use Rattle.spelling.specs.Language.{read_says}
 use Rattle.spelling.specs.declared.Printed.{Printed}
 use Rattle.spelling.specs.declared.WordRead.{WordRead}
-use Rattle.spelling.proofs.Printing.{print-short}
+use Rattle.spelling.proofs.Printing.{print_short}
 use Rattle.demands.proofs.Lists.{run_small}
 use Rattle.callinglamp.specs.Promises.{DecodePromise, EncodePromise, PartnerPromise, ExecutePromise, RunPromise, PrintPromise, ReadPromise}
 use Rattle.packing.specs.Packing.{halves, fields_from, decoded_into, executed_into, ran_into, ExecutedPut, RanPut, FitsHalf, TextFits}
@@ -39,8 +39,8 @@ module _ (settings : List ℕ) (s : Settings) (e : s ≡ settings_of settings) w
       → halves r ≡ encoded_says a → HostEncode settings fields r
   encode_said fields f a r g p h = rw (← e, g, h) p
 
-  pub encode-nothing : (fields : List ℕ) (r : ℕ) → fields_from fields ≡ Nothing → EncodesNumbers s Nothing (halves r) → HostEncode settings fields r
-  encode-nothing fields r g p = rw (← e, g) p
+  pub encode_nothing : (fields : List ℕ) (r : ℕ) → fields_from fields ≡ Nothing → EncodesNumbers s Nothing (halves r) → HostEncode settings fields r
+  encode_nothing fields r g p = rw (← e, g) p
 
   pub partner_said : (word : ℕ) (a : Partnered) (r : ℕ) → PartnerPromise s word a → halves r ≡ partnered_says a → HostPartner settings word r
   partner_said word a r p h = rw (← e) (h ∙ p)
@@ -72,5 +72,5 @@ module _ (list z za report : List ℕ) where
       omega (arith, ap (λ (o : Ended). o.place) p, (run_small list z za report).0)
 
 -- the length of a text has 32 bits
-pub print-fits : (s : Settings) (word : ℕ) (room : List ℕ) (a : Printed) (room' : List ℕ) → word < 2 ^ 32 → PrintPromise s word room a room' → TextFits a
-print-fits s word room a room' fits p = omega (arith, ap (λ (x : (ℕ × ℕ) × List ℕ). x.0.1) p, print-short s word room fits)
+pub print_fits : (s : Settings) (word : ℕ) (room : List ℕ) (a : Printed) (room' : List ℕ) → word < 2 ^ 32 → PrintPromise s word room a room' → TextFits a
+print_fits s word room a room' fits p = omega (arith, ap (λ (x : (ℕ × ℕ) × List ℕ). x.0.1) p, print_short s word room fits)

@@ -43,9 +43,9 @@ unfolding host_decode settings_of decode_paper decode_enabled describe enables v
 decoded = (refl, refl, refl, refl)
 
 -- bad settings are refused first: VL 129
-bad-settings : host_decode (129 ∷ 1 ∷ 0 ∷ 0 ∷ 0 ∷ 0 ∷ 0 ∷ []) 0x2F726820 before ≡ ((1, 0), before)
+bad_settings : host_decode (129 ∷ 1 ∷ 0 ∷ 0 ∷ 0 ∷ 0 ∷ 0 ∷ []) 0x2F726820 before ≡ ((1, 0), before)
 unfolding host_decode settings_of decode_paper valid_settings
-bad-settings = refl
+bad_settings = refl
 
 -- no family has the number 0, nor 6; unsigned is 0 or 1
 family_0 : HostEncode (settings 1) (0 ∷ 1 ∷ 1 ∷ 16 ∷ 0 ∷ 7 ∷ 0 ∷ 1 ∷ 2 ∷ 1 ∷ 0 ∷ 0 ∷ []) (of_halves 5 0)

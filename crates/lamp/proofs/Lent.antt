@@ -8,7 +8,7 @@ use mathlib.Core.List.{List}
 use lib.Dec.{lit≤}
 use lib.ListN.{take, replicate, length-replicate, replicate-append-replicate}
 use lib.Seq.{take_at}
-use Rattle.settings.proofs.Lengths.{length-at_most}
+use Rattle.settings.proofs.Lengths.{length_at_most}
 use Rattle.settings.specs.Valid.{valid_length}
 use Rattle.numbers.specs.declared.Read.{Read}
 use Rattle.numbers.specs.declared.Read.TheVariants.{Number}
@@ -16,10 +16,10 @@ use Rattle.lamp.specs.Lamp.{lines_of, register_of, register_bytes, printed}
 
 module _ (first : Read) (vl next : ℕ) (e : first ≡ Number vl next) where
   pub register_valid : valid_length vl ≡ true → (vl / 8 ≡ register_of first) × (vl / 8 ≤ 64)
-  register_valid v = (sym (ap register_of e ∙ rw v), length-at_most vl v)
+  register_valid v = (sym (ap register_of e ∙ rw v), length_at_most vl v)
 
-  pub register-not : valid_length vl ≡ false → (0 ≡ register_of first) × (0 ≤ 64)
-  register-not v = (sym (ap register_of e ∙ rw v), lit≤ tt)
+  pub register_not : valid_length vl ≡ false → (0 ≡ register_of first) × (0 ≤ 64)
+  register_not v = (sym (ap register_of e ∙ rw v), lit≤ tt)
 
 -- ---- the zeros that are lent
 

@@ -8,7 +8,7 @@ use lib.Seq.{take_at}
 use Rattle.settings.specs.Refused.{refusal_number}
 use Rattle.settings.specs.declared.Refusal.{Refusal}
 use Rattle.settings.specs.declared.Settings.{Settings}
-use Rattle.settings.proofs.Refusals.{not_0, tests-not_0}
+use Rattle.settings.proofs.Refusals.{not_0, tests_not_0}
 use Rattle.tally.specs.declared.Tally.{Tally}
 use Rattle.numbers.specs.Numbers.{numbers_at}
 use Rattle.machine.specs.Run.{Report}
@@ -77,22 +77,22 @@ module _ (list z za report z' za' report' : List ℕ) where
   unfolding run_paper
   accepted n t e = ran_of (plan_of list (lengths_of z za report)) n t z za report z' za' report' e
 
-  pub toggled-fits : (n : ℕ) (t : Tally) → RunPromise list z za report (Ran n t) z' za' report' → ToggledFits report' n
-  toggled-fits n t e =
+  pub toggled_fits : (n : ℕ) (t : Tally) → RunPromise list z za report (Ran n t) z' za' report' → ToggledFits report' n
+  toggled_fits n t e =
       subst⁻¹ (λ (o : Ended). ToggledFits o.report o.words) e (each_fits list z za report (sym (ap (λ (o : Ended). o.number) e)))
 
   -- ---- the text
 
-  pub text-ran : (n : ℕ) (t : Tally) (ws : List ℕ) → RunPromise list z za report (Ran n t) z' za' report'
+  pub text_ran : (n : ℕ) (t : Tally) (ws : List ℕ) → RunPromise list z za report (Ran n t) z' za' report'
       → ws ≡ words_of (plan_of list (lengths_of z za report)) → ran_lines ws report' (t.rises + t.falls) t.written ≡ lines_of list z za report
   unfolding lines_of text_of
-  text-ran n t ws e w = ap₂ text_of w e
+  text_ran n t ws e w = ap₂ text_of w e
 
   pub text-refused : (r : Refusal) (p n : ℕ) → RunPromise list z za report (Refused r p) z' za' report' → n ≡ refusal_number r → refused_line n p ≡ lines_of list z za report
   unfolding lines_of text_of
   text-refused r p n e k =
       ap (λ (m : ℕ). refused_line m p) k
-      ∙ sym (rw (tests-not_0 r))
+      ∙ sym (rw (tests_not_0 r))
       ∙ ap (text_of (words_of (plan_of list (lengths_of z za report)))) e
 
 -- the words in front are those of the list

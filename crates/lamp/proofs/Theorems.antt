@@ -12,7 +12,7 @@ use Rattle.settings.specs.Valid.{valid_length, valid_settings, vector_bytes, arr
 use Rattle.settings.specs.declared.Refusal.{Refusal}
 use Rattle.settings.specs.declared.Refusal.TheVariants.{BadSettings, BadLength, ListEnds, BadNumber, TooManyWords, ExtraBytes}
 use Rattle.settings.specs.Refused.{refusal_number}
-use Rattle.settings.proofs.Lengths.{valid-parts}
+use Rattle.settings.proofs.Lengths.{valid_parts}
 use Rattle.numbers.specs.Numbers.{all, number_at, numbers_at}
 use Rattle.numbers.proofs.Places.{number_far}
 use Rattle.numbers.proofs.Rows.{row_first}
@@ -36,9 +36,9 @@ unfolding lines_of
 same_lines k h list z za report =
     ap₂ text_of (ap words_of (enough_bytes k h list (lengths_of z za report))) (run_of_enough k h list z za report)
 
-pub enough-read : EnoughRead
+pub enough_read : EnoughRead
 unfolding printed register_bytes
-enough-read k h list =
+enough_read k h list =
     ap (λ (n : ℕ). lines_of (take k list) (replicate (32 * n) 0) (replicate (n * n) 0) (replicate (4 * most_words) 0))
     (ap register_of (first_number k (omega arith) list))
     ∙ same_lines k h list _ _ _
@@ -51,7 +51,7 @@ lent_right : (list head : List ℕ) (p : ℕ) → numbers_at list 0 7 ≡ all he
 unfolding vector_bytes array_bytes settings_of register_bytes
 lent_right list head p e v =
     let vl : ℕ = get_or head 0 0 in
-    let l : valid_length vl ≡ true = (valid-parts (settings_of head) v).0 in
+    let l : valid_length vl ≡ true = (valid_parts (settings_of head) v).0 in
     let w : register_of (number_at list 0) ≡ vl / 8 = ap register_of (row_first list 0 6 head p e).1 ∙ rw l in
     lengths_right (settings_of head) _ _ (ap (λ (n : ℕ). 32 * n) w) (ap (λ (n : ℕ). n * n) w)
 
@@ -71,5 +71,5 @@ others list =
       extra = λ p h. another ExtraBytes (λ (e : 10 ≡ 2). omega arith);
     }
 
-pub never_bad-length : NeverBadLength
-never_bad-length list p e = by_cause list (lent_to list) (λ r p. r ≢ BadLength) (others list) BadLength p e refl
+pub never_bad_length : NeverBadLength
+never_bad_length list p e = by_cause list (lent_to list) (λ r p. r ≢ BadLength) (others list) BadLength p e refl

@@ -121,7 +121,7 @@ fn put_printed(list: &[u8], out: &mut [u8]) -> usize
     )
 }
 
-// Room for more than the longest list that is accepted: of a longer one these bytes decide how it is refused (`enough-read`).
+// Room for more than the longest list that is accepted: of a longer one these bytes decide how it is refused (`enough_read`).
 fn input_room() -> [u8; INPUT]
     ensures { (8192 ≡ length result) × (longest < length result) }
 {

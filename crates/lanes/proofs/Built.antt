@@ -19,12 +19,12 @@ pub power : (wide : ℕ) → IsWidth wide → 256 ^ (wide / 8) ≡ 2 ^ wide
 power = by_width (λ n. 256 ^ (n / 8) ≡ 2 ^ n) (pow256 1) (pow256 2) (pow256 4) (pow256 8)
 
 -- so many bytes are whole elements, and each of them ends within
-pub whole-elements : (wide : ℕ) → IsWidth wide → (bytes : ℕ) → bytes % 8 ≡ 0 → 8 * bytes / wide * (wide / 8) ≡ bytes
-whole-elements wide w bytes h =
+pub whole_elements : (wide : ℕ) → IsWidth wide → (bytes : ℕ) → bytes % 8 ≡ 0 → 8 * bytes / wide * (wide / 8) ≡ bytes
+whole_elements wide w bytes h =
     by_width (λ n. 8 * bytes / n * (n / 8) ≡ bytes) (omega arith) (omega arith) (omega arith) (omega arith) wide w
 
-pub element-ends : (wide : ℕ) → IsWidth wide → (bytes : ℕ) → bytes % 8 ≡ 0 → (e : ℕ) → e < 8 * bytes / wide → e * (wide / 8) + wide / 8 ≤ bytes
-element-ends wide w bytes h e l = omega (arith, within e (8 * bytes / wide) (wide / 8) l, whole-elements wide w bytes h)
+pub element_ends : (wide : ℕ) → IsWidth wide → (bytes : ℕ) → bytes % 8 ≡ 0 → (e : ℕ) → e < 8 * bytes / wide → e * (wide / 8) + wide / 8 ≤ bytes
+element_ends wide w bytes h e l = omega (arith, within e (8 * bytes / wide) (wide / 8) l, whole_elements wide w bytes h)
 
 -- ---- the new elements
 
@@ -48,7 +48,7 @@ pub there : {r : Recipe} {bytes : ℕ} {z : List ℕ} {at n m : ℕ} → Registe
 there {r} {bytes} g e h =
     let i = g.inside in
     record {
-      old = omega (arith, element-ends r.wide i.widths.1.0 bytes i.whole e h, g.old);
+      old = omega (arith, element_ends r.wide i.widths.1.0 bytes i.whole e h, g.old);
       first = omega (arith, chosen_inside r.lane i.widths.0 r.first (8 * bytes / r.wide) bytes i.first e h, g.first);
       second = omega (arith, chosen_inside r.lane i.widths.0 r.second (8 * bytes / r.wide) bytes i.second e h, g.second);
     }
@@ -59,9 +59,9 @@ module _ (r : Recipe) (bytes : ℕ) (old first second : List ℕ) where
   Bytes-new_bytes = Bytes-vector (new_element r old first second) (r.wide / 8) (8 * bytes / r.wide)
 
   module _ (w : IsWidth r.wide) where
-    pub length-new : bytes % 8 ≡ 0 → length (new_bytes r bytes old first second) ≡ bytes
+    pub length_new : bytes % 8 ≡ 0 → length (new_bytes r bytes old first second) ≡ bytes
     unfolding new_bytes
-    length-new h = length-vector (new_element r old first second) (r.wide / 8) (8 * bytes / r.wide) ∙ whole-elements r.wide w bytes h
+    length_new h = length-vector (new_element r old first second) (r.wide / 8) (8 * bytes / r.wide) ∙ whole_elements r.wide w bytes h
 
     -- nothing of an element is lost in its bytes
     pub element-new_bytes : (e : ℕ) → e < 8 * bytes / r.wide → element_of r.wide (new_bytes r bytes old first second) e ≡ new_element r old first second e
@@ -80,7 +80,7 @@ module _ (r : Recipe) (bytes : ℕ) (old first second : List ℕ) where
       vector_cong (new_element r (take w old) (take w first) (take w second)) (new_element r old first second) k n
       (λ e h.
       rw (
-        element_at-take k (e * k) w old (omega (arith, element-ends r.wide g.widths.1.0 bytes g.whole e h, g.room)),
+        element_at-take k (e * k) w old (omega (arith, element_ends r.wide g.widths.1.0 bytes g.whole e h, g.room)),
         element_at-take l (chosen_at r.lane r.first e) w first (chosen_inside r.lane g.widths.0 r.first n w g.first e h),
         element_at-take l (chosen_at r.lane r.second e) w second (chosen_inside r.lane g.widths.0 r.second n w g.second e h),
       ))

@@ -26,9 +26,9 @@ unfolding low
 low-pos n k = refl
 
 -- the low bits of a - b and b give a, modulo 2 to n
-pub low-sub_is : (n a b : ℕ) → (low n (pos a -ℤ pos b) + b) % 2 ^ n ≡ a % 2 ^ n
+pub low_sub_is : (n a b : ℕ) → (low n (pos a -ℤ pos b) + b) % 2 ^ n ≡ a % 2 ^ n
 unfolding low
-low-sub_is n a b = by_lt a b
+low_sub_is n a b = by_lt a b
     (λ h.
     let e : ((2 ^ n - 1) - (b - suc a) % 2 ^ n) + b ≡ a + ((b - suc a) / 2 ^ n + 1) * 2 ^ n =
     omega (arith, comp_is (2 ^ n) (b - suc a) (pow_pos n), mod-lt (b - suc a) (pow_pos n)) in
@@ -37,8 +37,8 @@ low-sub_is n a b = by_lt a b
     ap (λ (z : ℤ). (low n z + b) % 2 ^ n) (minus_ge a b h) ∙ mod-add-mod (a - b) (2 ^ n) b ∙ ap (λ (k : ℕ). k % 2 ^ n) e)
 
 -- and no other number of n bits does
-pub low-sub : (n a b r : ℕ) → r < 2 ^ n → (r + b) % 2 ^ n ≡ a % 2 ^ n → low n (pos a -ℤ pos b) ≡ r
-low-sub n a b r h e = cancel (2 ^ n) _ r b (low_lt n (pos a -ℤ pos b)) h (low-sub_is n a b ∙ sym e)
+pub low_sub : (n a b r : ℕ) → r < 2 ^ n → (r + b) % 2 ^ n ≡ a % 2 ^ n → low n (pos a -ℤ pos b) ≡ r
+low_sub n a b r h e = cancel (2 ^ n) _ r b (low_lt n (pos a -ℤ pos b)) h (low_sub_is n a b ∙ sym e)
 
 -- the low w bits of the low bits are those of the integer
 low_add : (j w : ℕ) (z : ℤ) → low (j + w) z % 2 ^ w ≡ low w z

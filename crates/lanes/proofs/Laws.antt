@@ -2,7 +2,7 @@
 use Rattle.std.proofs.Common.{◌≡◌, ℕ, zero, ◌+◌, ◌%◌, ◌^◌, ◌<◌, Bool, true, false, not, pos, ◌-ℤ◌, sym, ap, ◌∙◌, add_assoc, mod-lt, mod-eq_of_lt, arith, pow_pos}
 use native.Mathlib.Nat.{mod-mod, mod-add-mod, add-mod-mod, add_right_comm}
 use Rattle.lanes.specs.Lane.{low, product, accumulate, lane_step, sat_step, step}
-use Rattle.lanes.proofs.Integers.{low_lt, low-pos, low-sub_is, low-sub}
+use Rattle.lanes.proofs.Integers.{low_lt, low-pos, low_sub_is, low_sub}
 
 -- ---- an answer has the accumulator's width
 
@@ -27,13 +27,13 @@ step_lt false lane wide unsigned subtract a x y = lane_step_lt lane wide unsigne
 
 pub undo : (n : ℕ) (subtract : Bool) (a p : ℕ) → a < 2 ^ n → accumulate n (not subtract) (accumulate n subtract a p) p ≡ a
 unfolding accumulate low
-undo n false a p h = low-sub n ((a + p) % 2 ^ n) p a h (sym (mod-mod (a + p) (2 ^ n)))
-undo n true a p h = low-sub_is n a p ∙ mod-eq_of_lt h
+undo n false a p h = low_sub n ((a + p) % 2 ^ n) p a h (sym (mod-mod (a + p) (2 ^ n)))
+undo n true a p h = low_sub_is n a p ∙ mod-eq_of_lt h
 
-pub undo-step : (lane wide : ℕ) (unsigned subtract : Bool) (a x y : ℕ) → a < 2 ^ wide
+pub undo_step : (lane wide : ℕ) (unsigned subtract : Bool) (a x y : ℕ) → a < 2 ^ wide
     → lane_step lane wide unsigned (not subtract) (lane_step lane wide unsigned subtract a x y) x y ≡ a
 unfolding lane_step
-undo-step lane wide unsigned subtract a x y h = undo wide subtract a (product lane wide unsigned x y) h
+undo_step lane wide unsigned subtract a x y h = undo wide subtract a (product lane wide unsigned x y) h
 
 -- ---- either operation adds a number that only the operation and the product decide
 
@@ -46,11 +46,11 @@ unfolding accumulate delta
 accumulate_is n false a p = low-pos n (a + p)
 accumulate_is n true a p =
     let d = low n (pos zero -ℤ pos p) in
-    low-sub n a p ((a + d) % 2 ^ n) (mod-lt _ (pow_pos n))
+    low_sub n a p ((a + d) % 2 ^ n) (mod-lt _ (pow_pos n))
     (mod-add-mod (a + d) (2 ^ n) p
     ∙ ap (λ (k : ℕ). k % 2 ^ n) (add_assoc a d p)
     ∙ sym (add-mod-mod a (d + p) (2 ^ n))
-    ∙ ap (λ (k : ℕ). (a + k) % 2 ^ n) (low-sub_is n zero p)
+    ∙ ap (λ (k : ℕ). (a + k) % 2 ^ n) (low_sub_is n zero p)
     ∙ add-mod-mod a zero (2 ^ n)
     ∙ ap (λ (k : ℕ). k % 2 ^ n) (omega arith))
 
@@ -67,7 +67,7 @@ commute n s t a p q =
         ∙ mod-add-mod (a + delta n s p) (2 ^ n) (delta n t q)
 
 -- two steps, of any lanes and signs
-pub commute-step : (lane lane' wide : ℕ) (u u' s s' : Bool) (a x y x' y' : ℕ)
+pub commute_step : (lane lane' wide : ℕ) (u u' s s' : Bool) (a x y x' y' : ℕ)
     → lane_step lane' wide u' s' (lane_step lane wide u s a x y) x' y' ≡ lane_step lane wide u s (lane_step lane' wide u' s' a x' y') x y
 unfolding lane_step
-commute-step lane lane' wide u u' s s' a x y x' y' = commute wide s s' a (product lane wide u x y) (product lane' wide u' x' y')
+commute_step lane lane' wide u u' s s' a x y x' y' = commute wide s s' a (product lane wide u x y) (product lane' wide u' x' y')

@@ -39,12 +39,12 @@ clamp_neg h m = by_lt h m
     less : (h m : ℕ) → m ≤ h → suc m ≡ min (suc m) (suc h)
     less h m k = omega arith
 
-pub clamp-value : (top : ℕ) → zero < top → (s : Bool) (m : ℕ) → clamp top (signed_value s m) ≡ signed_value s (min m (limit top s))
+pub clamp_value : (top : ℕ) → zero < top → (s : Bool) (m : ℕ) → clamp top (signed_value s m) ≡ signed_value s (min m (limit top s))
 unfolding signed_value
-clamp-value zero h s m = absurd (omega arith)
-clamp-value (suc top) h false m = clamp-pos top m
-clamp-value (suc top) h true zero = clamp-pos top zero ∙ simp zero-min
-clamp-value (suc top) h true (suc m) = clamp_neg top m
+clamp_value zero h s m = absurd (omega arith)
+clamp_value (suc top) h false m = clamp-pos top m
+clamp_value (suc top) h true zero = clamp-pos top zero ∙ simp zero-min
+clamp_value (suc top) h true (suc m) = clamp_neg top m
 
 pub limit_le : (top : ℕ) (s : Bool) → limit top s ≤ top
 limit_le top false = omega arith
@@ -53,12 +53,12 @@ limit_le top true = omega arith
 -- ---- what the code's branches ask
 
 -- the three cases of a sum
-pub clamp-same : (top : ℕ) (s t : Bool) (a b : ℕ) (r : ℤ) → beq s t ≡ true
+pub clamp_same : (top : ℕ) (s t : Bool) (a b : ℕ) (r : ℤ) → beq s t ≡ true
     → r ≡ clamp top (signed_value t (a + b)) → r ≡ clamp top (signed_value s a +ℤ signed_value t b)
-clamp-same top false false a b r e h = h ∙ ap (clamp top) (sym (sum_same false a b))
-clamp-same top false true a b r e h = cc
-clamp-same top true false a b r e h = cc
-clamp-same top true true a b r e h = h ∙ ap (clamp top) (sym (sum_same true a b))
+clamp_same top false false a b r e h = h ∙ ap (clamp top) (sym (sum_same false a b))
+clamp_same top false true a b r e h = cc
+clamp_same top true false a b r e h = cc
+clamp_same top true true a b r e h = h ∙ ap (clamp top) (sym (sum_same true a b))
 
 other : (s t : Bool) → beq s t ≡ false → t ≡ not s
 other false false e = cc

@@ -5,7 +5,7 @@ use native.Mathlib.Nat.{mod-mod, mul-lt-mul_of_pos_left}
 use lib.IntN.{+ℤ_comm, neg_ℤ-+ℤ, neg_ℤ-neg_ℤ}
 use Rattle.lanes.specs.Lane.{s_int, low}
 use Rattle.lanes.specs.Signed.{signed_value, signs}
-use Rattle.lanes.proofs.Integers.{minus_ge, low-pos, low-sub}
+use Rattle.lanes.proofs.Integers.{minus_ge, low-pos, low_sub}
 
 -- ---- sums of two signs
 
@@ -36,9 +36,9 @@ unfolding s_int signed_value
 read_low w x h eh k = simp (sym (ap (λ (n : ℕ). ltb x n) eh) ∙ lt-ltb x h k)
 
 -- the top bit is set
-pub read-high : (w x h : ℕ) → h ≡ 2 ^ (w - 1) → 2 ^ w ≡ h + h → h ≤ x → x < 2 ^ w → signed_value true (h - (x - h)) ≡ s_int w x
+pub read_high : (w x h : ℕ) → h ≡ 2 ^ (w - 1) → 2 ^ w ≡ h + h → h ≤ x → x < 2 ^ w → signed_value true (h - (x - h)) ≡ s_int w x
 unfolding s_int signed_value
-read-high w x h eh ew l k =
+read_high w x h eh ew l k =
     let e : h - (x - h) ≡ 2 ^ w - x = omega arith in
     let m : x ≤ 2 ^ w = omega arith in
     simp (sym (ap (λ (n : ℕ). ltb x n) eh) ∙ le-ltb x h l) (ap (signed_value true) e ∙ sym (sum_le false x (2 ^ w) m))
@@ -71,4 +71,4 @@ added n s a m r e h = rw e (h ∙ sym (low-pos n (a + m)))
 
 pub subtracted : (n : ℕ) (s : Bool) (a m r : ℕ) → s ≡ true → r < 2 ^ n → (r + m) % 2 ^ n ≡ a → r ≡ low n (pos a +ℤ signed_value s m)
 unfolding signed_value
-subtracted n s a m r e h k = rw e (sym (low-sub n a m r h (sym (mod-mod (r + m) (2 ^ n)) ∙ ap (λ (i : ℕ). i % 2 ^ n) k)))
+subtracted n s a m r e h k = rw e (sym (low_sub n a m r h (sym (mod-mod (r + m) (2 ^ n)) ∙ ap (λ (i : ℕ). i % 2 ^ n) k)))

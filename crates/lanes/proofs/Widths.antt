@@ -1,13 +1,13 @@
 -- What the widths of a step are. Assumes nothing.
 use Rattle.std.proofs.Common.{◌≡◌, ℕ, zero, suc, ◌+◌, ◌-◌, ◌*◌, ◌^◌, ◌<◌, ◌≤◌, ◌⊎◌, refl, inl, inr, ⊎_elim, lt_of_lt_of_le, arith, pow_mono}
 use Rattle.elements.specs.Lanes.{IsLane}
-use Rattle.elements.proofs.Lanes.{by-lane}
+use Rattle.elements.proofs.Lanes.{by_lane}
 use Rattle.lanes.specs.Widths.{IsWidth, Widths}
 
 -- ---- a lane
 
 pub lane_range : (lane : ℕ) → IsLane lane → (8 ≤ lane) × (lane ≤ 32)
-lane_range = by-lane (λ n. (8 ≤ n) × (n ≤ 32)) (omega arith, omega arith) (omega arith, omega arith) (omega arith, omega arith)
+lane_range = by_lane (λ n. (8 ≤ n) × (n ≤ 32)) (omega arith, omega arith) (omega arith, omega arith) (omega arith, omega arith)
 
 pub lane_lt : (lane : ℕ) → IsLane lane → (x : ℕ) → x < 2 ^ lane → x < 2 ^ 32
 lane_lt lane l x h = lt_of_lt_of_le h (pow_mono (lane_range lane l).1)
@@ -19,14 +19,14 @@ top_le lane l = let h : lane - 1 ≤ 31 = omega (arith, (lane_range lane l).1) i
 
 -- what holds of each width holds of any
 pub by_width : (P : ℕ → Type 0) → P 8 → P 16 → P 32 → P 64 → (n : ℕ) → IsWidth n → P n
-by_width P a b c d n w = ⊎_elim (by-lane P a b c n) (λ (e : n ≡ 64). rw e d) w
+by_width P a b c d n w = ⊎_elim (by_lane P a b c n) (λ (e : n ≡ 64). rw e d) w
 
 pub width_range : (n : ℕ) → IsWidth n → (zero < n) × (n ≤ 64)
 width_range = by_width (λ n. (zero < n) × (n ≤ 64)) (omega arith, omega arith) (omega arith, omega arith) (omega arith, omega arith) (omega arith, omega arith)
 
 -- a width that no lane has
-pub last-width : (n : ℕ) → IsWidth n → (n ≡ 8 → ⊥) → (n ≡ 16 → ⊥) → (n ≡ 32 → ⊥) → n ≡ 64
-last-width =
+pub last_width : (n : ℕ) → IsWidth n → (n ≡ 8 → ⊥) → (n ≡ 16 → ⊥) → (n ≡ 32 → ⊥) → n ≡ 64
+last_width =
     by_width (λ n. (n ≡ 8 → ⊥) → (n ≡ 16 → ⊥) → (n ≡ 32 → ⊥) → n ≡ 64)
     (λ f g h. absurd (f refl))
     (λ f g h. absurd (g refl))
@@ -46,7 +46,7 @@ wide_least lane wide w = omega (arith, (lane_range lane w.0).0, w.1.1)
 -- the accumulator of twice a lane's bits
 pub doubled : (lane : ℕ) → IsLane lane → Widths lane (2 * lane)
 doubled =
-    by-lane (λ n. Widths n (2 * n))
+    by_lane (λ n. Widths n (2 * n))
     (inl refl, (inl (inr (inl refl)), omega arith))
     (inr (inl refl), (inl (inr (inr refl)), omega arith))
     (inr (inr refl), (inr refl, omega arith))

@@ -5,22 +5,22 @@ use Rattle.laws.proofs.Tests.{by_lt}
 use Rattle.lanes.specs.Lane.{s_int, int_of, low, product, accumulate, lane_step}
 use Rattle.lanes.specs.Signed.{signed_value, signs}
 use Rattle.lanes.specs.Widths.{raise}
-use Rattle.lanes.proofs.Integers.{minus_lt, minus_ge, low_lt, low-sub, low-low}
+use Rattle.lanes.proofs.Integers.{minus_lt, minus_ge, low_lt, low_sub, low-low}
 use Rattle.lanes.proofs.Signs.{sum_ge, sum_le, value_times}
 use Rattle.lanes.proofs.Widths.{two-halves}
 
 -- ---- a number of the lane's bits, raised, is its integer, raised
 
 -- below h the sum does not wrap, and from it on it does
-raise-low : (m h x : ℕ) → m ≡ h + h → x < h → pos ((x + h) % m) -ℤ pos h ≡ pos x
-raise-low m h x em k =
+raise_low : (m h x : ℕ) → m ≡ h + h → x < h → pos ((x + h) % m) -ℤ pos h ≡ pos x
+raise_low m h x em k =
     let l : x + h < m = omega arith in
     let g : h ≤ x + h = omega arith in
     let e : x + h - h ≡ x = omega arith in
     ap (λ (n : ℕ). pos n -ℤ pos h) (mod-eq_of_lt l) ∙ minus_ge (x + h) h g ∙ ap pos e
 
-raise-high : (m h x : ℕ) → m ≡ h + h → h ≤ x → x < m → pos ((x + h) % m) -ℤ pos h ≡ pos x -ℤ pos m
-raise-high m h x em k l =
+raise_high : (m h x : ℕ) → m ≡ h + h → h ≤ x → x < m → pos ((x + h) % m) -ℤ pos h ≡ pos x -ℤ pos m
+raise_high m h x em k l =
     let s : x + h ≡ (x - h) + 1 * m = omega arith in
     let f : x - h < m = omega arith in
     let g : x - h < h = omega arith in
@@ -39,8 +39,8 @@ raised_is w true x hw k =
     let e : (x + 0) % 2 ^ w ≡ x = ap (λ (n : ℕ). n % 2 ^ w) z ∙ mod-eq_of_lt k in
     ap (λ (n : ℕ). pos (n + 0)) e ∙ ap pos z
 raised_is w false x hw k = by_lt x (2 ^ (w - 1))
-    (λ l. simp (lt-ltb x (2 ^ (w - 1)) l) (raise-low (2 ^ w) (2 ^ (w - 1)) x (two-halves w hw) l))
-    (λ l. simp (le-ltb x (2 ^ (w - 1)) l) (raise-high (2 ^ w) (2 ^ (w - 1)) x (two-halves w hw) l k))
+    (λ l. simp (lt-ltb x (2 ^ (w - 1)) l) (raise_low (2 ^ w) (2 ^ (w - 1)) x (two-halves w hw) l))
+    (λ l. simp (le-ltb x (2 ^ (w - 1)) l) (raise_high (2 ^ w) (2 ^ (w - 1)) x (two-halves w hw) l k))
 
 -- ---- the product of two differences
 
@@ -88,7 +88,7 @@ pub product_is : (lane n : ℕ) (unsigned : Bool) (x y h a b s r : ℕ) → zero
     → r ≡ product lane n unsigned x y
 unfolding product
 product_is lane n unsigned x y h a b s r hl hx hy eh ea eb es k e =
-    sym (low-sub n (a * b + h * h) (h * (a + b)) r k (e ∙ es))
+    sym (low_sub n (a * b + h * h) (h * (a + b)) r k (e ∙ es))
     ∙ ap (low n) (sym (raised_times a b h) ∙ ap₂ (λ (u v : ℤ). u *ℤ v) (factor x a hx ea) (factor y b hy eb))
   where
     factor : (x a : ℕ) → x < 2 ^ lane → a ≡ (x + h) % 2 ^ lane → pos a -ℤ pos h ≡ int_of lane unsigned x
@@ -96,10 +96,10 @@ product_is lane n unsigned x y h a b s r hl hx hy eh ea eb es k e =
         ap (λ (n : ℕ). pos n -ℤ pos h) ea ∙ ap (λ (n : ℕ). pos ((x + n) % 2 ^ lane) -ℤ pos n) eh ∙ raised_is lane unsigned x hl hx
 
 -- and modulo 2 to a smaller number of bits
-pub product-low : (lane wide n : ℕ) (unsigned : Bool) (x y p : ℕ) → wide ≤ n → p ≡ product lane n unsigned x y
+pub product_low : (lane wide n : ℕ) (unsigned : Bool) (x y p : ℕ) → wide ≤ n → p ≡ product lane n unsigned x y
     → p % 2 ^ wide ≡ product lane wide unsigned x y
 unfolding product
-product-low lane wide n unsigned x y p h e = ap (λ (m : ℕ). m % 2 ^ wide) e ∙ low-low wide n (int_of lane unsigned x *ℤ int_of lane unsigned y) h
+product_low lane wide n unsigned x y p h e = ap (λ (m : ℕ). m % 2 ^ wide) e ∙ low-low wide n (int_of lane unsigned x *ℤ int_of lane unsigned y) h
 
 -- the step adds or subtracts that product
 pub lane_is : (lane wide : ℕ) (unsigned subtract : Bool) (a x y p r : ℕ) → p ≡ product lane wide unsigned x y

@@ -13,12 +13,12 @@ one_bit P a b (suc zero) h = b
 one_bit P a b (suc (suc x)) h = absurd (omega arith)
 
 -- what holds of the four pairs of bits holds of any two bits
-pub two-bits : (P : ℕ → ℕ → Type 0) → P 0 0 → P 0 1 → P 1 0 → P 1 1 → (x y : ℕ) → x < 2 → y < 2 → P x y
-two-bits P a b c d x y hx hy = one_bit (λ u. P u y) (one_bit (P 0) a b y hy) (one_bit (P 1) c d y hy) x hx
+pub two_bits : (P : ℕ → ℕ → Type 0) → P 0 0 → P 0 1 → P 1 0 → P 1 1 → (x y : ℕ) → x < 2 → y < 2 → P x y
+two_bits P a b c d x y hx hy = one_bit (λ u. P u y) (one_bit (P 0) a b y hy) (one_bit (P 1) c d y hy) x hx
 
 -- two bits: to flip one by the other twice changes nothing
 differ_twice : (a b : ℕ) → a < 2 → b < 2 → (differ a b < 2) × (differ (differ a b) b ≡ a)
-differ_twice = two-bits (λ a b. (differ a b < 2) × (differ (differ a b) b ≡ a)) (omega arith, refl) (omega arith, refl) (omega arith, refl) (omega arith, refl)
+differ_twice = two_bits (λ a b. (differ a b < 2) × (differ (differ a b) b ≡ a)) (omega arith, refl) (omega arith, refl) (omega arith, refl) (omega arith, refl)
 
 -- to flip the same bits twice changes nothing
 pub xor_twice : (w m : ℕ) → bit_xor (bit_xor w m) m ≡ w

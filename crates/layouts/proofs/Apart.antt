@@ -19,8 +19,8 @@ fixed_at (bits k x ∷ l) p = cond (leb (size l) p) (cond (ltb p (size l + k)) (
 fixed_at (field k a ∷ l) p = cond (leb (size l) p) 2 (fixed_at l p)
 
 -- bit j of the k bits above bit s is bit s + j
-bit_of-part : (w s k j : ℕ) → j < k → w / 2 ^ s % 2 ^ k / 2 ^ j % 2 ≡ w / 2 ^ (s + j) % 2
-bit_of-part w s k j h =
+bit_of_part : (w s k j : ℕ) → j < k → w / 2 ^ s % 2 ^ k / 2 ^ j % 2 ≡ w / 2 ^ (s + j) % 2
+bit_of_part w s k j h =
     let b = k - suc j in
     let e : k ≡ b + 1 + j = omega arith in
     ap (λ (n : ℕ). w / 2 ^ s % 2 ^ n / 2 ^ j % 2) e
@@ -41,7 +41,7 @@ fixed_bit (bits k x ∷ l) w p h =
     let i : size l ≤ p = leb-true _ _ a in
     let j : p < size l + k = ltb-true _ _ b in
     let q : size l + (p - size l) ≡ p = omega arith in
-    sym (ap (λ (n : ℕ). n / 2 ^ (p - size l) % 2) (sym e) ∙ bit_of-part w (size l) k (p - size l) (omega arith) ∙ ap (λ (n : ℕ). w / 2 ^ n % 2) q))
+    sym (ap (λ (n : ℕ). n / 2 ^ (p - size l) % 2) (sym e) ∙ bit_of_part w (size l) k (p - size l) (omega arith) ∙ ap (λ (n : ℕ). w / 2 ^ n % 2) q))
     (λ _ (f : 2 < 2). absurd (omega arith)))
     (λ _. fixed_bit l w p r.0)
 fixed_bit (field k a ∷ l) w p h =
@@ -57,14 +57,14 @@ apart l m zero = false
 apart l m (suc n) = differs (fixed_at l n) (fixed_at m n) || apart l m n
 
 -- two layouts that are apart have no word in common
-pub no-word_in_both : (l m : Layout) (n w : ℕ) → apart l m n ≡ true → matches l w ≡ true → matches m w ≡ true → ⊥
-no-word_in_both l m zero w e p q = never_both true refl (sym e)
-no-word_in_both l m (suc n) w e p q = either (differs (fixed_at l n) (fixed_at m n)) (apart l m n) e
+pub no_word_in_both : (l m : Layout) (n w : ℕ) → apart l m n ≡ true → matches l w ≡ true → matches m w ≡ true → ⊥
+no_word_in_both l m zero w e p q = never_both true refl (sym e)
+no_word_in_both l m (suc n) w e p q = either (differs (fixed_at l n) (fixed_at m n)) (apart l m n) e
     (λ d.
     let a = both _ _ d in
     let b = both _ _ a.0 in
     eqb-false _ _ (not-true _ a.1) (sym (fixed_bit l w n p (ltb-true _ _ b.0)) ∙ fixed_bit m w n q (ltb-true _ _ b.1)))
-    (λ d. no-word_in_both l m n w d p q)
+    (λ d. no_word_in_both l m n w d p q)
 
 -- each layout of the list is apart from l in its 32 bits
 abbrev pub apart_from : Layout → List Layout → Bool

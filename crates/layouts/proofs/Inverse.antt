@@ -49,12 +49,12 @@ pub build-parts : (l : Layout) (w : ℕ) → w < 2 ^ size l → matches l w ≡ 
 build-parts l w h m = build_agrees l (parts l w) w m (agrees-parts l w) ∙ mod-eq_of_lt h
 
 -- the word of values that fit has no more bits than the layout
-build-fits : (l : Layout) (vs : List ℕ) → Fit l vs → build l vs < 2 ^ size l
-build-fits [] [] f = omega arith
-build-fits [] (v ∷ vs) f = absurd f
-build-fits (bits k x ∷ l) vs f = rw (pow-add 2 k (size l)) (digits_lt f.0 (build-fits l vs f.1))
-build-fits (field k a ∷ l) [] f = absurd f
-build-fits (field k a ∷ l) (v ∷ vs) f = rw (pow-add 2 k (size l)) (digits_lt f.0 (build-fits l vs f.1))
+build_fits : (l : Layout) (vs : List ℕ) → Fit l vs → build l vs < 2 ^ size l
+build_fits [] [] f = omega arith
+build_fits [] (v ∷ vs) f = absurd f
+build_fits (bits k x ∷ l) vs f = rw (pow-add 2 k (size l)) (digits_lt f.0 (build_fits l vs f.1))
+build_fits (field k a ∷ l) [] f = absurd f
+build_fits (field k a ∷ l) (v ∷ vs) f = rw (pow-add 2 k (size l)) (digits_lt f.0 (build_fits l vs f.1))
 
 -- the bits that a head value puts above the rest
 pub above : (y v k s r : ℕ) → y * 2 ^ (k + s) + (v * 2 ^ s + r) ≡ (y * 2 ^ k + v) * 2 ^ s + r
@@ -69,10 +69,10 @@ parts-build [] [] y f = (refl, refl)
 parts-build [] (v ∷ vs) y f = absurd f
 parts-build (bits k x ∷ l) vs y f =
     let r = parts-build l vs (y * 2 ^ k + x) f.1 in
-    let e = head-part y x k (size l) (build l vs) f.0 (build-fits l vs f.1) in
+    let e = head-part y x k (size l) (build l vs) f.0 (build_fits l vs f.1) in
     rw (above y x k (size l) (build l vs)) (r.0, rw r.1 (eq-eqb _ _ e))
 parts-build (field k a ∷ l) [] y f = absurd f
 parts-build (field k a ∷ l) (v ∷ vs) y f =
     let r = parts-build l vs (y * 2 ^ k + v) f.1 in
-    let e = head-part y v k (size l) (build l vs) f.0 (build-fits l vs f.1) in
+    let e = head-part y v k (size l) (build l vs) f.0 (build_fits l vs f.1) in
     rw (above y v k (size l) (build l vs)) (ap₂ (λ (a : ℕ) (b : List ℕ). a ∷ b) e r.0, r.1)

@@ -3,9 +3,9 @@ use Rattle.std.specs.Prelude.{◌≡◌, refl, [], ◌∷◌, ◌++◌}
 use Rattle.pieces.specs.Pieces.{text, digits, decimal_up_to, decimal, hex8}
 use Rattle.lines.specs.Lines.{refused_line, counts_after, outcome, word_line, word_lines, words_line, total_line, ran_lines}
 
-refused-at_once : refused_line 7 0 ≡ text "refused 7 at 0\n"
+refused_at_once : refused_line 7 0 ≡ text "refused 7 at 0\n"
 unfolding refused_line decimal decimal_up_to
-refused-at_once = refl
+refused_at_once = refl
 
 -- C1A20008, 0E228020, C1A20000
 three_words : ran_lines (3248619528 ∷ 237142048 ∷ 3248619520 ∷ []) (0 ∷ 1024 ∷ 0 ∷ 1024 ∷ 3 ∷ 0 ∷ 0 ∷ 0 ∷ 0 ∷ 0 ∷ 1024 ∷ 1024 ∷ []) 2048 2048

@@ -24,7 +24,7 @@ use Rattle.elements.specs.Files.{vector_at, replaced}
 use Rattle.elements.proofs.Files.{Placed, Names, renewed_cong, replaced-renewed}
 use Rattle.machine.specs.Step.{stride, selected, first_vector, some_below, writes_vector, new_vector, za_after}
 use Rattle.machine.specs.Loop.{Grid, place, becomes, IntoZa}
-use Rattle.machine.proofs.Grid.{Written, row_written, which, place_lt, place_distinct, place-which, which_lt, which-row, r_lt, i_lt}
+use Rattle.machine.proofs.Grid.{Written, row_written, which, place_lt, place_distinct, place-which, which_lt, which_row, r_lt, i_lt}
 
 -- a number below n that passes
 pub some_below_lem : (n : ℕ) (test : ℕ → Bool) → some_below n test ≡ true → (i : ℕ) × ((i < n) × (test i ≡ true))
@@ -35,12 +35,12 @@ some_below_lem (suc n) test e =
     (λ t. (n, (omega arith, t)))
     (λ t. let b = some_below_lem n test t in (b.0, (omega (arith, b.1.0), b.1.1)))
 
-pub below-some : (n : ℕ) (test : ℕ → Bool) (i : ℕ) → i < n → test i ≡ true → some_below n test ≡ true
+pub below_some : (n : ℕ) (test : ℕ → Bool) (i : ℕ) → i < n → test i ≡ true → some_below n test ≡ true
 unfolding some_below
-below-some zero test i h t = absurd (omega arith)
-below-some (suc n) test i h t =
+below_some zero test i h t = absurd (omega arith)
+below_some (suc n) test i h t =
     by_lt i n
-    (λ l. rw (below-some n test i l t) (or-true (test n)))
+    (λ l. rw (below_some n test i l t) (or-true (test n)))
     (λ l. let e : i ≡ n = omega arith in rw (← e, t))
   where
     or-true : (b : Bool) → (b || true) ≡ true
@@ -53,9 +53,9 @@ group_numbers f g (inl e) = (in_family f g LongLong e).0
 group_numbers f g (inr e) = (in_family f g Long e).0
 
 -- k, by its number
-pub two_or-four-vectors : (f : Fields) → IntoZa f → (k : ℕ) → k ≡ per_source f.family → (k ≡ 2) ⊎ (k ≡ 4)
-two_or-four-vectors f (inl e) k ek = inr (ek ∙ ap per_source e)
-two_or-four-vectors f (inr e) k ek = inl (ek ∙ ap per_source e)
+pub two_or_four_vectors : (f : Fields) → IntoZa f → (k : ℕ) → k ≡ per_source f.family → (k ≡ 2) ⊎ (k ≡ 4)
+two_or_four_vectors f (inl e) k ek = inr (ek ∙ ap per_source e)
+two_or_four_vectors f (inr e) k ek = inl (ek ∙ ap per_source e)
 
 -- rows of a multiple of 4 vectors; rounding down to a multiple of k keeps k vectors below the row's end
 over_numbers : (w group k x : ℕ) → VectorLength w → (group ≡ 2) ⊎ (group ≡ 4) → (k ≡ 2) ⊎ (k ≡ 4)
@@ -75,10 +75,10 @@ over_numbers w group k x v = go
     go (inr h) = grid (w / group) refl (rw h (omega (arith, v.whole))) (rw h (omega (arith, v.least))) (rw h (omega (arith, v.whole)))
 
 -- the first n of a word's vectors are there, and the new ones are as long
-pub placed-to : (f : Fields) → Ranges f → {w stride k first : ℕ} → VectorLength w → Grid w f.group stride k first → (z za : List ℕ) → length za ≡ w * w
+pub placed_to : (f : Fields) → Ranges f → {w stride k first : ℕ} → VectorLength w → Grid w f.group stride k first → (z za : List ℕ) → length za ≡ w * w
     → (n : ℕ) → n ≤ f.group * k → Placed (place first stride k) (becomes f w first stride k z za) w w n za
 unfolding becomes
-placed-to f ranges {w} v g z za long n h =
+placed_to f ranges {w} v g z za long n h =
     record {
       long = long;
       inside = λ q l. place_lt g q (omega arith);
@@ -89,7 +89,7 @@ module _ (s : Settings) (v : VectorLength (array_bytes s)) (f : Fields) (g : Ran
   numbers : Grid (array_bytes s) f.group (stride s f) (per_source f.family) (first_vector s f) × (first_vector s f % per_source f.family ≡ 0)
   unfolding stride selected first_vector
   numbers =
-      over_numbers (array_bytes s) f.group (per_source f.family) (get_or s.select (f.select - 8) 0 + f.offset) v (group_numbers f g za) (two_or-four-vectors f za _ refl)
+      over_numbers (array_bytes s) f.group (per_source f.family) (get_or s.select (f.select - 8) 0 + f.offset) v (group_numbers f g za) (two_or_four_vectors f za _ refl)
 
   pub grid : Grid (array_bytes s) f.group (stride s f) (per_source f.family) (first_vector s f)
   grid = numbers.0
@@ -110,8 +110,8 @@ module _ (s : Settings) (v : VectorLength (array_bytes s)) (f : Fields) (g : Ran
   unfolding writes_vector
   passes r i hr hi =
       let u : ℕ = first_vector s f + r * stride s f + i in
-      below-some f.group (λ r. some_below (per_source f.family) (λ i. eqb u (first_vector s f + r * stride s f + i))) r hr
-      (below-some (per_source f.family) (λ i. eqb u (first_vector s f + r * stride s f + i)) i hi (eq-eqb u u refl))
+      below_some f.group (λ r. some_below (per_source f.family) (λ i. eqb u (first_vector s f + r * stride s f + i))) r hr
+      (below_some (per_source f.family) (λ i. eqb u (first_vector s f + r * stride s f + i)) i hi (eq-eqb u u refl))
 
   module _ (z a : List ℕ) (long : length a ≡ array_bytes s * array_bytes s) where
     abbrev w : ℕ
@@ -127,7 +127,7 @@ module _ (s : Settings) (v : VectorLength (array_bytes s)) (f : Fields) (g : Ran
     new = becomes f w (first_vector s f) (stride s f) k z a
 
     pub placed : Placed at new w w (f.group * k) a
-    placed = placed-to f g v grid z a long (f.group * k) (omega arith)
+    placed = placed_to f g v grid z a long (f.group * k) (omega arith)
 
     passes_at : (q : ℕ) → q < f.group * k → writes_vector s f (at q) ≡ true
     unfolding place
@@ -146,7 +146,7 @@ module _ (s : Settings) (v : VectorLength (array_bytes s)) (f : Fields) (g : Ran
     unfolding becomes new_vector
     by_number u h e =
         let y = tested u e in
-        let r = which-row grid u y in
+        let r = which_row grid u y in
         rw (place-which grid u h y, r.0, r.1, same_length s)
 
     -- the loop's result is ZA after the step

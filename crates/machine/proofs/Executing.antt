@@ -22,9 +22,9 @@ use Rattle.machine.specs.Execute.{Outcome, refused_with, stepped, right_lengths,
 use Rattle.machine.specs.Loop.{Ready}
 
 -- decode under valid settings, by the features
-pub decodes-to : (s : Settings) (w : ℕ) (d : ℕ × Fields) → valid_settings s ≡ true → decode_enabled s.features.0 w ≡ d → decode_paper s w ≡ d
+pub decodes_to : (s : Settings) (w : ℕ) (d : ℕ × Fields) → valid_settings s ≡ true → decode_enabled s.features.0 w ≡ d → decode_paper s w ≡ d
 unfolding decode_paper
-decodes-to s w d v e = rw v e
+decodes_to s w d v e = rw v e
 
 -- an accepted word's fields are in range
 pub word_ranges : (s : Settings) (w : ℕ) (f : Fields) → decode_paper s w ≡ (0, f) → Ranges f
@@ -56,9 +56,9 @@ module _ (s : Settings) (z za : List ℕ) where
       record { valid = v; z_long = exact.0; za_long = exact.1 }
 
   -- 3
-  pub not-decoded : (w : ℕ) → Ready s z za → (decode_paper s w).0 ≢ 0 → refused_with 3 z za ≡ execute_paper s w z za
+  pub not_decoded : (w : ℕ) → Ready s z za → (decode_paper s w).0 ≢ 0 → refused_with 3 z za ≡ execute_paper s w z za
   unfolding execute_paper
-  not-decoded w r h = rw (r.valid, lengths_right s _ _ r.z_long r.za_long, ne_eqb (decode_paper s w).0 0 h)
+  not_decoded w r h = rw (r.valid, lengths_right s _ _ r.z_long r.za_long, ne_eqb (decode_paper s w).0 0 h)
 
   module _ (w : ℕ) (f : Fields) (r : Ready s z za) (e : decode_paper s w ≡ (0, f)) where
     -- 4
@@ -71,15 +71,15 @@ module _ (s : Settings) (z za : List ℕ) where
     is_permitted p = rw (r.valid, lengths_right s _ _ r.z_long r.za_long, e) (cond_no _ _ _ _ (ap not p) refl)
 
     -- of the fields g that the code has read
-    pub is-done : (g : Fields) (o : Outcome) → g ≡ f → permits s.features.0 s.modes.0 f.family ≡ true → o ≡ stepped s g z za → o ≡ execute_paper s w z za
-    is-done g o eg p eo = eo ∙ ap (λ (h : Fields). stepped s h z za) eg ∙ is_permitted p
+    pub is_done : (g : Fields) (o : Outcome) → g ≡ f → permits s.features.0 s.modes.0 f.family ≡ true → o ≡ stepped s g z za → o ≡ execute_paper s w z za
+    is_done g o eg p eo = eo ∙ ap (λ (h : Fields). stepped s h z za) eg ∙ is_permitted p
 
   -- what holds of every refusal and of the step of an accepted word holds of every outcome
-  pub each-outcome : (w : ℕ) (P : Outcome → Type 0) → ((n : ℕ) → n ≢ 0 → P (refused_with n z za))
+  pub each_outcome : (w : ℕ) (P : Outcome → Type 0) → ((n : ℕ) → n ≢ 0 → P (refused_with n z za))
       → ((f : Fields) → Ready s z za → decode_paper s w ≡ (0, f) → permits s.features.0 s.modes.0 f.family ≡ true → P (stepped s f z za))
       → P (execute_paper s w z za)
   unfolding execute_paper
-  each-outcome w P refused done =
+  each_outcome w P refused done =
       let d : ℕ × Fields = decode_paper s w in
       cond-holds P (not (valid_settings s)) _ _ (λ _. refused 1 (not_0 BadSettings))
       (λ v. cond-holds P (not (right_lengths s (length z) (length za))) _ _ (λ _. refused 2 (not_0 BadLength))

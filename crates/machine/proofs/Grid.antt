@@ -13,8 +13,8 @@ module _ {w group stride k first : ℕ} (g : Grid w group stride k first) where
       let e : first + r * stride + i ≡ r * stride + (first + i) = omega arith in
       ap (λ (v : ℕ). v / stride) e ∙ digits_div r (omega (arith, g.fits))
 
-  pub within-row : (r i : ℕ) → i < k → (first + r * stride + i) % stride ≡ first + i
-  within-row r i h =
+  pub within_row : (r i : ℕ) → i < k → (first + r * stride + i) % stride ≡ first + i
+  within_row r i h =
       let e : first + r * stride + i ≡ r * stride + (first + i) = omega arith in
       ap (λ (v : ℕ). v % stride) e ∙ digits_mod r (omega (arith, g.fits))
 
@@ -27,7 +27,7 @@ module _ {w group stride k first : ℕ} (g : Grid w group stride k first) where
   -- no two are one
   pub rows_distinct : (r i r' i' : ℕ) → i < k → i' < k → first + r * stride + i ≡ first + r' * stride + i' → (r ≡ r') × (i ≡ i')
   rows_distinct r i r' i' h h' e =
-      let a : first + i ≡ first + i' = sym (within-row r i h) ∙ ap (λ (v : ℕ). v % stride) e ∙ within-row r' i' h' in
+      let a : first + i ≡ first + i' = sym (within_row r i h) ∙ ap (λ (v : ℕ). v % stride) e ∙ within_row r' i' h' in
       (sym (row_of r i h) ∙ ap (λ (v : ℕ). v / stride) e ∙ row_of r' i' h', omega arith)
 
   -- ---- the same by the number q of a vector, r·k + i
@@ -58,7 +58,7 @@ module _ {w group stride k first : ℕ} (g : Grid w group stride k first) where
   -- the vectors that are written are those with an r and an i
   pub row_written : (r i : ℕ) → i < k → Written (first + r * stride + i)
   unfolding Written
-  row_written r i h = let e = within-row r i h in (omega (arith, e), omega (arith, e))
+  row_written r i h = let e = within_row r i h in (omega (arith, e), omega (arith, e))
 
   pub by_row : (v : ℕ) → v < w → Written v → (v / stride < group) × (v % stride - first < k) × (first + v / stride * stride + (v % stride - first) ≡ v)
   unfolding Written
@@ -67,9 +67,9 @@ module _ {w group stride k first : ℕ} (g : Grid w group stride k first) where
       let l : v < group * stride = omega (arith, g.rows) in
       ((div-lt_iff_lt-mul s).1 l, omega (arith, y.0, y.1), omega (arith, y.0, div-add-mod' v stride))
 
-  pub which-row : (v : ℕ) → Written v → (which v / k ≡ v / stride) × (which v % k ≡ v % stride - first)
+  pub which_row : (v : ℕ) → Written v → (which v / k ≡ v / stride) × (which v % k ≡ v % stride - first)
   unfolding which Written
-  which-row v y =
+  which_row v y =
       let h : v % stride - first < k = omega (arith, y.0, y.1) in
       (digits_div (v / stride) h, digits_mod (v / stride) h)
 
@@ -80,5 +80,5 @@ module _ {w group stride k first : ℕ} (g : Grid w group stride k first) where
   pub place-which : (v : ℕ) → v < w → Written v → place first stride k (which v) ≡ v
   unfolding place
   place-which v h y =
-      let r = which-row v y in
+      let r = which_row v y in
       ap₂ (λ (a b : ℕ). first + a * stride + b) r.0 r.1 ∙ (by_row v h y).2

@@ -24,7 +24,7 @@ use Rattle.bits.specs.declared.Toggles.{Toggles}
 use Rattle.lanes.specs.Recipe.{Recipe}
 use Rattle.recipes.specs.Recipe.{recipe_of, new_length, per_source, OfC}
 use Rattle.lanes.specs.Element.{new_bytes, Inside, RegistersThere}
-use Rattle.recipes.proofs.Inside.{new-length, length-new_bytes, inside}
+use Rattle.recipes.proofs.Inside.{new_length_lem, length-new_bytes, inside}
 use Rattle.lanes.proofs.Built.{new_bytes_within}
 use Rattle.machine.specs.Loop.{made, RegisterRenewed, RegisterWritten, IntoV, IntoZa, Sources, Places}
 
@@ -39,9 +39,9 @@ register_small {w} v x h = omega (arith, within x 32 w h, v.most)
 pub vector_small : {w : ℕ} → VectorLength w → (x : ℕ) → x < w → x * w + w ≤ 65536
 vector_small {w} v x h = omega (arith, within x w w h, array_small v)
 
-two_or-four : {n : ℕ} → (n ≡ 2) ⊎ (n ≡ 4) → 0 < n
-two_or-four (inl e) = omega arith
-two_or-four (inr e) = omega arith
+two_or_four : {n : ℕ} → (n ≡ 2) ⊎ (n ≡ 4) → 0 < n
+two_or_four (inl e) = omega arith
+two_or_four (inr e) = omega arith
 
 pub two : {n : ℕ} → (n ≡ 2) ⊎ (n ≡ 4) → n ≢ 4 → n ≡ 2
 two (inl e) h = e
@@ -59,17 +59,17 @@ some_group : (f : Fields) (family : Family) → OfFamily family f → 0 < f.grou
 some_group f ByElement o = omega arith
 some_group f Vector o = omega arith
 some_group f Saturating o = omega (arith, o.0)
-some_group f LongLong o = two_or-four o.0
-some_group f Long o = two_or-four o.0
+some_group f LongLong o = two_or_four o.0
+some_group f Long o = two_or_four o.0
 
 -- a V register has 16 bytes
-pub v-length : (f : Fields) (w : ℕ) → IntoV f → new_length f.family w ≡ 16
-v-length f w (inl e) = ap (λ (x : Family). new_length x w) e
-v-length f w (inr e) = ap (λ (x : Family). new_length x w) e
+pub v_length : (f : Fields) (w : ℕ) → IntoV f → new_length f.family w ≡ 16
+v_length f w (inl e) = ap (λ (x : Family). new_length x w) e
+v_length f w (inr e) = ap (λ (x : Family). new_length x w) e
 
 -- C's new bytes are the whole register
-pub whole-register : (f : Fields) (w : ℕ) → f.family ≡ Saturating → new_length f.family w ≡ w
-whole-register f w c = ap (λ (x : Family). new_length x w) c
+pub whole_register : (f : Fields) (w : ℕ) → f.family ≡ Saturating → new_length f.family w ≡ w
+whole_register f w c = ap (λ (x : Family). new_length x w) c
 
 -- so each register that it names is one of the 32
 pub source_lt : (f : Fields) → Ranges f → (f.first < 32) × (f.second < 32)
@@ -81,8 +81,8 @@ module _ {f : Fields} {w : ℕ} {z : List ℕ} (p : Sources f w z) where
   first_source = some_source f.family
 
   -- register x of Z is there
-  pub register-there : (x : ℕ) → x < 32 → x * w + w ≤ length z
-  register-there x h = omega (arith, next x w, room x 32 w z p.z_long h)
+  pub register_there : (x : ℕ) → x < 32 → x * w + w ≤ length z
+  register_there x h = omega (arith, next x w, room x 32 w z p.z_long h)
 
   -- n bytes of vector v of the file `a` become new: they are made of the registers alone
   pub renewal : (i : ℕ) → i < per_source f.family → (n : ℕ) → new_length f.family w ≡ n → (v x y : ℕ) (a new a' : List ℕ) (t : Toggles)
@@ -98,20 +98,20 @@ module _ {f : Fields} {w : ℕ} {z : List ℕ} (p : Sources f w z) where
   abbrev renewed_bytes : List ℕ
   renewed_bytes = made f 0 (new_length f.family w) w f.destination z f.first f.second z
 
-  long-new : length renewed_bytes ≡ new_length f.family w
-  long-new = length-new_bytes f p.ranges 0 (new_length f.family w) _ _ _ (new-length f.family w p.width).0
+  long_new : length renewed_bytes ≡ new_length f.family w
+  long_new = length-new_bytes f p.ranges 0 (new_length f.family w) _ _ _ (new_length_lem f.family w p.width).0
 
   -- A and B clear what is above the V register
   module _ (i : IntoV f) {t : Toggles} {z' : List ℕ} (r : RegisterRenewed f w t z z') where
     sixteen : length renewed_bytes ≡ 16
-    sixteen = long-new ∙ v-length f w i
+    sixteen = long_new ∙ v_length f w i
 
     fit : f.destination * w + length renewed_bytes ≤ length z
-    fit = omega (arith, sixteen, p.width.least, register-there f.destination p.ranges.destination)
+    fit = omega (arith, sixteen, p.width.least, register_there f.destination p.ranges.destination)
 
-    pub clear-there : (f.destination * w + 16 + (w - 16) ≤ length z') × (((w - 16) % 8 ≡ 0) × (w - 16 ≤ 65536))
-    clear-there = (
-      omega (arith, p.width.least, register-there f.destination p.ranges.destination, ap length r.after ∙ length-splice _ renewed_bytes z fit),
+    pub clear_there : (f.destination * w + 16 + (w - 16) ≤ length z') × (((w - 16) % 8 ≡ 0) × (w - 16 ≤ 65536))
+    clear_there = (
+      omega (arith, p.width.least, register_there f.destination p.ranges.destination, ap length r.after ∙ length-splice _ renewed_bytes z fit),
       (omega (arith, p.width.whole), omega (arith, p.width.most)),
     )
 
@@ -119,13 +119,13 @@ module _ {f : Fields} {w : ℕ} {z : List ℕ} (p : Sources f w z) where
       pub falls_small : t.falls + c ≤ 2048
       falls_small = omega (arith, r.few, q.few, sixteen, length-zeros (w - 16), p.width.most, p.width.least)
 
-      pub all-written : RegisterWritten f w (record { rises = t.rises; falls = t.falls + c }) z z''
-      all-written =
+      pub all_written : RegisterWritten f w (record { rises = t.rises; falls = t.falls + c }) z z''
+      all_written =
           let at : ℕ = f.destination * w in
-          let above : Cleared (at + length renewed_bytes) (w - new_length f.family w) c z' z'' = rw (sixteen, v-length f w i) q in
+          let above : Cleared (at + length renewed_bytes) (w - new_length f.family w) c z' z'' = rw (sixteen, v_length f w i) q in
           rw add-zero at
           (behind at t _ renewed_bytes (zeros (w - new_length f.family w)) z z' z''
-          (omega (arith, long-new, length-zeros (w - new_length f.family w), (new-length f.family w p.width).1, register-there f.destination p.ranges.destination)) r above)
+          (omega (arith, long_new, length-zeros (w - new_length f.family w), (new_length_lem f.family w p.width).1, register_there f.destination p.ranges.destination)) r above)
 
   -- where the new bytes are the whole register there is nothing above them to clear: in C, and in A and B where registers have 16 bytes
   pub none_above : new_length f.family w ≡ w → {t : Toggles} {z' : List ℕ} → RegisterRenewed f w t z z' → RegisterWritten f w t z z'
@@ -140,23 +140,23 @@ module _ {f : Fields} {w : ℕ} {z : List ℕ} (p : Sources f w z) where
     of_c = (in_family f p.ranges Saturating c).1
 
     -- the registers that it takes are there
-    pub step-places : ((f.family ≡ Saturating) × OfC f.lane) × RegistersThere (recipe_of Saturating f 0) bytes z (f.destination * w) (f.first * w) (f.second * w)
-    step-places =
+    pub step_places : ((f.family ≡ Saturating) × OfC f.lane) × RegistersThere (recipe_of Saturating f 0) bytes z (f.destination * w) (f.first * w) (f.second * w)
+    step_places =
         let g = p.ranges in
         let l = source_lt f g in (
           (c, of_c),
           record {
             inside = rw eb (rw c at (inside f g w p.width 0 first_source));
-            old = omega (arith, register-there f.destination g.destination);
-            first = omega (arith, register-there f.first l.0);
-            second = omega (arith, register-there f.second l.1);
+            old = omega (arith, register_there f.destination g.destination);
+            first = omega (arith, register_there f.first l.0);
+            second = omega (arith, register_there f.second l.1);
           },
         )
 
     module _ (out : List ℕ) (long : length out ≡ bytes) where
       pub step_room : (f.destination * w + length out ≤ length z) × (length out % 8 ≡ 0) × (length out ≤ 65536)
       step_room = (
-        omega (arith, register-there f.destination p.ranges.destination),
+        omega (arith, register_there f.destination p.ranges.destination),
         omega (arith, p.width.whole),
         omega (arith, p.width.most),
       )
@@ -168,11 +168,11 @@ module _ {f : Fields} {w : ℕ} {z : List ℕ} (p : Sources f w z) where
           → RegisterRenewed f w t z z'
       step_renewal z' t e =
           renewal 0 first_source (new_length f.family w) refl f.destination f.first f.second z out z' t
-          (e ∙ ap (λ (n : ℕ). new_bytes (recipe_of f.family f 0) n (drop (f.destination * w) z) (drop (f.first * w) z) (drop (f.second * w) z)) (eb ∙ sym (whole-register f w c)))
+          (e ∙ ap (λ (n : ℕ). new_bytes (recipe_of f.family f 0) n (drop (f.destination * w) z) (drop (f.first * w) z) (drop (f.second * w) z)) (eb ∙ sym (whole_register f w c)))
 
 -- D and E write whole vectors
-pub whole-vector : {f : Fields} {w : ℕ} {z za : List ℕ} → Places f w z za → new_length f.family w ≡ w
-whole-vector {f} {w} p = by p.into
+pub whole_vector : {f : Fields} {w : ℕ} {z za : List ℕ} → Places f w z za → new_length f.family w ≡ w
+whole_vector {f} {w} p = by p.into
   where
     by : IntoZa f → new_length f.family w ≡ w
     by (inl e) = ap (λ (x : Family). new_length x w) e

@@ -16,7 +16,7 @@ use Rattle.elements.specs.Files.{replaced}
 use Rattle.recipes.specs.Recipe.{per_source}
 use Rattle.machine.specs.Step.{stride, selected, first_vector, za_after}
 use Rattle.machine.specs.Loop.{Grid, place, becomes, IntoZa, Places}
-use Rattle.machine.proofs.Array.{group_numbers, two_or-four-vectors, grid, array_is}
+use Rattle.machine.proofs.Array.{group_numbers, two_or_four_vectors, grid, array_is}
 
 -- W8 to W11
 pub select_range : (f : Fields) → Ranges f → IntoZa f → (8 ≤ f.select) × (f.select < 12)
@@ -28,16 +28,16 @@ module _ (s : Settings) {f : Fields} {z za : List ℕ} (p : Places f (array_byte
   group_is = group_numbers f p.sources.ranges p.into
 
   pub vectors_are : (k : ℕ) → k ≡ per_source f.family → (k ≡ 2) ⊎ (k ≡ 4)
-  vectors_are = two_or-four-vectors f p.into
+  vectors_are = two_or_four_vectors f p.into
 
   the_grid : Grid (array_bytes s) f.group (stride s f) (per_source f.family) (first_vector s f)
   the_grid = grid s p.sources.width f p.sources.ranges p.into
 
   -- w, the vectors of a row, number, k, and by how much the first vector is rounded down, are what the code was told
   module _ (w row : ℕ) (ew : w ≡ array_bytes s) (er : row ≡ w / f.group) where
-    pub stride-pos : 0 < row
+    pub stride_pos : 0 < row
     unfolding stride
-    stride-pos = rw (er, ew) (let g = the_grid in omega (arith, g.some, g.fits))
+    stride_pos = rw (er, ew) (let g = the_grid in omega (arith, g.some, g.fits))
 
     module _ (number k less : ℕ) (en : number ≡ get_or s.select (f.select - 8) 0) (ek : k ≡ per_source f.family) (el : less ≡ (number + f.offset) % row % k) where
       -- the first vector, as the code computes it

@@ -6,7 +6,7 @@ use mathlib.Core.Logic.{◌⊎◌, inl, inr}
 use mathlib.Core.List.{List}
 use Rattle.settings.specs.Valid.{vector_bytes}
 use Rattle.settings.specs.declared.Settings.{Settings}
-use Rattle.settings.proofs.Lengths.{vector-at_most, vector-bits, array-at_most}
+use Rattle.settings.proofs.Lengths.{vector_at_most, vector_bits, array_at_most}
 use Rattle.words.specs.Ranges.{Ranges, OfFamily}
 use Rattle.words.specs.declared.Family.{Family}
 use Rattle.words.specs.declared.Family.TheVariants.{ByElement, Vector, Saturating, LongLong, Long}
@@ -15,7 +15,7 @@ use Rattle.bits.specs.Bits.{over_bytes, rose, fell}
 use Rattle.bits.proofs.Bits.{Once, rose_once, fell_once, bytes_le}
 use Rattle.machine.specs.Execute.{Outcome, written, stepped, execute_paper}
 use Rattle.machine.specs.Loop.{Ready}
-use Rattle.machine.proofs.Executing.{word_ranges, each-outcome}
+use Rattle.machine.proofs.Executing.{word_ranges, each_outcome}
 
 -- at most each bit of Z and ZA rose, and at most each fell; VL·group·4 written, with the greatest VL and the greatest group
 abbrev pub Small : Outcome → Type 0
@@ -23,7 +23,7 @@ Small o = (o.rises ≤ 49152) × (o.falls ≤ 49152) × (o.written ≤ 8192)
 
 module _ (s : Settings) (f : Fields) (z za : List ℕ) (p : Ready s z za) where
   register : vector_bytes s ≤ 64
-  register = vector-at_most s p.valid
+  register = vector_at_most s p.valid
 
   -- whatever the bytes become
   count_small : (t : ℕ → ℕ → ℕ) → Once t → (z' za' : List ℕ) → over_bytes t z z' + over_bytes t za za' ≤ 49152
@@ -31,7 +31,7 @@ module _ (s : Settings) (f : Fields) (z za : List ℕ) (p : Ready s z za) where
       omega (
         arith,
         register,
-        array-at_most s p.valid _ refl,
+        array_at_most s p.valid _ refl,
         p.z_long,
         p.za_long,
         bytes_le t once z z',
@@ -39,7 +39,7 @@ module _ (s : Settings) (f : Fields) (z za : List ℕ) (p : Ready s z za) where
       )
 
   most : s.vl ≤ 512
-  most = omega (arith, register, vector-bits s p.valid)
+  most = omega (arith, register, vector_bits s p.valid)
 
   -- a source of D or E has 2,048 bits at most
   in_groups : (f.group ≡ 2) ⊎ (f.group ≡ 4) → s.vl * f.group ≤ 2048
@@ -58,4 +58,4 @@ module _ (s : Settings) (f : Fields) (z za : List ℕ) (p : Ready s z za) where
   step_small g = (count_small rose rose_once _ _, count_small fell fell_once _ _, written_small f.family refl g.of_family)
 
 pub counts_small : (s : Settings) (w : ℕ) (z za : List ℕ) → Small (execute_paper s w z za)
-counts_small s w z za = each-outcome s z za w Small (λ n h. (omega arith, omega arith, omega arith)) (λ f p d m. step_small s f z za p (word_ranges s w f d))
+counts_small s w z za = each_outcome s z za w Small (λ n h. (omega arith, omega arith, omega arith)) (λ f p d m. step_small s f z za p (word_ranges s w f d))

@@ -7,7 +7,7 @@ use mathlib.Core.Logic.{◌⊎◌, inl, inr}
 use mathlib.Core.List.{List}
 use Rattle.settings.specs.Valid.{vector_bytes, array_bytes}
 use Rattle.settings.specs.declared.Settings.{Settings}
-use Rattle.settings.proofs.Lengths.{vector-length, vector-at_most, vector-bits, same_length}
+use Rattle.settings.proofs.Lengths.{vector_length, vector_at_most, vector_bits, same_length}
 use Rattle.words.specs.Ranges.{Ranges}
 use Rattle.words.specs.declared.Family.{Family}
 use Rattle.words.specs.declared.Family.TheVariants.{ByElement, Vector, Saturating, LongLong, Long}
@@ -77,22 +77,22 @@ written_z s f (inl e) = rw e
 written_z s f (inr (inl e)) = rw e
 written_z s f (inr (inr e)) = rw e
 
-pub written-za : (s : Settings) (f : Fields) → IntoZa f → written s f ≡ s.vl * f.group * per_source f.family
-written-za s f (inl e) = rw e
-written-za s f (inr e) = rw e
+pub written_za : (s : Settings) (f : Fields) → IntoZa f → written s f ≡ s.vl * f.group * per_source f.family
+written_za s f (inl e) = rw e
+written_za s f (inr e) = rw e
 
 module _ (s : Settings) (f : Fields) (z za : List ℕ) (p : Ready s z za) (g : Ranges f) (w : ℕ) (ew : w ≡ vector_bytes s) where
   pub sources_of : Sources f w z
   sources_of =
       record {
         ranges = g;
-        width = rw ew (vector-length s p.valid);
+        width = rw ew (vector_length s p.valid);
         z_long = rw ew p.z_long;
       }
 
   -- 64 bytes have room for a register
   pub short : w ≤ 64
-  short = rw ew (vector-at_most s p.valid)
+  short = rw ew (vector_at_most s p.valid)
 
   -- a vector of ZA is as long as a register
   pub places_of : IntoZa f → Places f (array_bytes s) z za
@@ -110,14 +110,14 @@ module _ (s : Settings) (f : Fields) (z za : List ℕ) (p : Ready s z za) (g : R
   in-za : (t : ℕ → ℕ → ℕ) → Unmoved t → (za' : List ℕ) → over_bytes t z z + over_bytes t za za' ≡ over_bytes t za za'
   in-za t same za' = ap (λ (n : ℕ). n + over_bytes t za za') (bytes_same t same z) ∙ zero-add (over_bytes t za za')
 
-  pub z-done : IntoZ f → (t : Toggles) (z' : List ℕ)
+  pub z_done : IntoZ f → (t : Toggles) (z' : List ℕ)
       → RegisterWritten f w t z z'
       → Stepped s f t z za z' za
   unfolding new_register
-  z-done i t z' r =
+  z_done i t z' r =
       let r' = subst (λ (x : ℕ). RegisterWritten f x t z z') ew r in
       let q = stepped_z_lem s f z za i in
-      let e : z' ≡ z_after s f z = r'.after ∙ register_is s (vector-length s p.valid) f g z p.z_long in
+      let e : z' ≡ z_after s f z = r'.after ∙ register_is s (vector_length s p.valid) f g z p.z_long in
       record {
         z_stepped = e ∙ sym (ap (λ (o : Outcome). o.z) q);
         za_stepped = sym (ap (λ (o : Outcome). o.za) q);
@@ -125,8 +125,8 @@ module _ (s : Settings) (f : Fields) (z za : List ℕ) (p : Ready s z za) (g : R
         fell = ap (λ (b : Toggles). b.falls) r'.bits ∙ ap (falls z) e ∙ sym (ap (λ (o : Outcome). o.falls) q ∙ in_z fell fell_unmoved (z_after s f z));
       }
 
-  pub za-done : IntoZa f → (t : Toggles) (za' : List ℕ) → za' ≡ za_after s f z za → t ≡ toggles za za' → Stepped s f t z za z za'
-  za-done i t za' e b =
+  pub za_done : IntoZa f → (t : Toggles) (za' : List ℕ) → za' ≡ za_after s f z za → t ≡ toggles za za' → Stepped s f t z za z za'
+  za_done i t za' e b =
       let q = stepped-za s f z za i in
       record {
         z_stepped = sym (ap (λ (o : Outcome). o.z) q);
@@ -148,4 +148,4 @@ outcome_is s f t n z za z' za' p en = same_outcome refl p.rose p.fell en p.z_ste
 
 -- a register has 2,048 bits at most
 pub bits_small : (s : Settings) (z za : List ℕ) → Ready s z za → s.vl ≤ 2048
-bits_small s z za p = omega (arith, vector-bits s p.valid, (vector-length s p.valid).most)
+bits_small s z za p = omega (arith, vector_bits s p.valid, (vector_length s p.valid).most)

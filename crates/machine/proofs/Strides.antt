@@ -8,7 +8,7 @@ use mathlib.Core.List.{List}
 use lib.Dec.{lit≤}
 use lib.ListN.{length, drop}
 use Rattle.elements.specs.Lanes.{IsLane, each, Reaches}
-use Rattle.elements.proofs.Lanes.{by-lane, chosen-from}
+use Rattle.elements.proofs.Lanes.{by_lane, chosen-from}
 use Rattle.elements.proofs.Files.{next, room}
 use Rattle.words.specs.Ranges.{Ranges}
 use Rattle.words.specs.declared.Family.{Family}
@@ -25,18 +25,18 @@ use Rattle.recipes.specs.Recipe.{wrapping, recipe_of, new_length, per_source}
 use Rattle.lanes.specs.Element.{new_bytes, Inside}
 use Rattle.recipes.proofs.Inside.{half_in, index_in, inside}
 use Rattle.machine.specs.Loop.{made, RegisterRenewed, IntoZa, Sources, Places}
-use Rattle.machine.proofs.Renewal.{source_lt, first_source, register-there, renewal, whole-vector}
+use Rattle.machine.proofs.Renewal.{source_lt, first_source, register_there, renewal, whole_vector}
 
 -- the lanes that lie in a register are there, from lane number `from` on
 reach : {f : Fields} {w : ℕ} {z : List ℕ} → Sources f w z → (x from by n y : ℕ) → x < 32 → y ≡ x * w + from * (f.lane / 8)
     → Reaches f.lane (each by from) n w → Reach f.lane n z y by
-reach {f} p x from by n y h e r = omega (arith, register-there p x h, chosen-from f.lane by from (n - 1))
+reach {f} p x from by n y h e r = omega (arith, register_there p x h, chosen-from f.lane by from (n - 1))
 
 -- ---- A and B
 
 -- a half has 8 bytes
 half_bytes : {lane : ℕ} → IsLane lane → (part : ℕ) → part * 8 ≡ part * (64 / lane) * (lane / 8)
-half_bytes {lane} l part = by-lane (λ n. part * 8 ≡ part * (64 / n) * (n / 8)) (omega arith) (omega arith) (omega arith) lane l
+half_bytes {lane} l part = by_lane (λ n. part * 8 ≡ part * (64 / n) * (n / 8)) (omega arith) (omega arith) (omega arith) lane l
 
 module _ {f : Fields} {w : ℕ} {z : List ℕ} (p : Sources f w z) where
   -- where the code reads, and that it is there
@@ -57,23 +57,23 @@ module _ {f : Fields} {w : ℕ} {z : List ℕ} (p : Sources f w z) where
   abbrev Many : ℕ
   Many = 8 * 16 / (2 * f.lane)
 
-  half-there : (x : ℕ) → x < 32 → Reach f.lane Many z (Half x) 1
-  half-there x h = reach p x _ 1 Many (Half x) h (at_half x) (half_in f.lane p.ranges.lane w p.width.least f.part p.ranges.part)
+  half_there : (x : ℕ) → x < 32 → Reach f.lane Many z (Half x) 1
+  half_there x h = reach p x _ 1 Many (Half x) h (at_half x) (half_in f.lane p.ranges.lane w p.width.least f.part p.ranges.part)
 
   pub index_small : f.index * (f.lane / 8) ≤ 16
   index_small = omega (arith, index_in f.lane p.ranges.lane 16 (lit≤ tt) f.index 0 p.ranges.index)
 
-  pub v-places : At + 16 ≤ length z
-  v-places = omega (arith, register-there p f.destination p.ranges.destination, p.width.least)
+  pub v_places : At + 16 ≤ length z
+  v_places = omega (arith, register_there p f.destination p.ranges.destination, p.width.least)
 
-  pub index-there : Reach f.lane Many z (Half f.first) 1 × Reach f.lane Many z Index 0
-  index-there = (
-    half-there f.first (source_lt f p.ranges).0,
+  pub index_there : Reach f.lane Many z (Half f.first) 1 × Reach f.lane Many z Index 0
+  index_there = (
+    half_there f.first (source_lt f p.ranges).0,
     reach p f.second f.index 0 Many Index (source_lt f p.ranges).1 refl (index_in f.lane p.ranges.lane w p.width.least f.index Many p.ranges.index),
   )
 
-  pub pairs-there : Reach f.lane Many z (Half f.first) 1 × Reach f.lane Many z (Half f.second) 1
-  pairs-there = (half-there f.first (source_lt f p.ranges).0, half-there f.second (source_lt f p.ranges).1)
+  pub pairs_there : Reach f.lane Many z (Half f.first) 1 × Reach f.lane Many z (Half f.second) 1
+  pairs_there = (half_there f.first (source_lt f p.ranges).0, half_there f.second (source_lt f p.ranges).1)
 
   -- the new bytes, where the second source is read from byte y on in steps of `by`
   abbrev New : ℕ → ℕ → List ℕ
@@ -87,8 +87,8 @@ module _ {f : Fields} {w : ℕ} {z : List ℕ} (p : Sources f w z) where
   v_renewal family e y by same z' t =
       renewal p 0 (first_source p) (new_length f.family w) refl f.destination f.first f.second z _ z' t (subst (Same y by) (sym e) same)
 
-  pub by-element : f.family ≡ ByElement → (z' : List ℕ) (t : Toggles) → Replaced At t (New Index 0) z z' → RegisterRenewed f w t z z'
-  by-element e =
+  pub by_element_lem : f.family ≡ ByElement → (z' : List ℕ) (t : Toggles) → Replaced At t (New Index 0) z z' → RegisterRenewed f w t z z'
+  by_element_lem e =
       v_renewal ByElement e Index 0
       (even_bytes_lem f.lane (2 * f.lane) f.unsigned f.subtract 1 _ 0 f.index z At z (f.first * w) (f.second * w) _ Index 16 (at_half f.first) refl)
 
@@ -100,11 +100,11 @@ module _ {f : Fields} {w : ℕ} {z : List ℕ} (p : Sources f w z) where
 -- ---- D and E
 
 -- the lanes, and the elements of k lanes, as a word has them
-array-lanes : (f : Fields) → Ranges f → IntoZa f → (k : ℕ) → k ≡ per_source f.family → OfArray f.lane (k * f.lane)
-array-lanes f g (inl e) k ek =
+array_lanes : (f : Fields) → Ranges f → IntoZa f → (k : ℕ) → k ≡ per_source f.family → OfArray f.lane (k * f.lane)
+array_lanes f g (inl e) k ek =
     rw (ek ∙ ap per_source e)
     (⊎_elim (λ (q : f.lane ≡ 8). rw q (inl (refl, refl))) (λ (q : f.lane ≡ 16). rw q (inr (inl (refl, refl)))) (in_family f g LongLong e).1)
-array-lanes f g (inr e) k ek = rw (ek ∙ ap per_source e, (in_family f g Long e).1) (inr (inr (refl, refl)))
+array_lanes f g (inr e) k ek = rw (ek ∙ ap per_source e, (in_family f g Long e).1) (inr (inr (refl, refl)))
 
 -- the recipe, by the k that the code was told
 by-k : (f : Fields) → IntoZa f → (k : ℕ) → k ≡ per_source f.family → (i : ℕ) → recipe_of f.family f i ≡ wrapping f k (each k i) (each k i)
@@ -113,7 +113,7 @@ by-k f (inr e) k ek i = rw (ek ∙ ap per_source e, e)
 
 module _ {f : Fields} {w : ℕ} {z za : List ℕ} (p : Places f w z za) (k : ℕ) (ek : k ≡ per_source f.family) where
   pub of_array : OfArray f.lane (k * f.lane)
-  of_array = array-lanes f p.sources.ranges p.into k ek
+  of_array = array_lanes f p.sources.ranges p.into k ek
 
   -- an element has the bits of k lanes, and at most 64
   steps : k * f.lane / f.lane ≡ k
@@ -132,23 +132,23 @@ module _ {f : Fields} {w : ℕ} {z za : List ℕ} (p : Places f w z za) (k : ℕ
     found : i < per_source f.family
     found = subst (λ (n : ℕ). i < n) ek hi
 
-    in-register : Inside (wrapping f k (each k i) (each k i)) w w
-    in-register = rw (by-k f p.into k ek i, whole-vector p) at (inside f p.sources.ranges w p.sources.width i found)
+    in_register : Inside (wrapping f k (each k i) (each k i)) w w
+    in_register = rw (by-k f p.into k ek i, whole_vector p) at (inside f p.sources.ranges w p.sources.width i found)
 
     pub from_small : i * (f.lane / 8) ≤ 256
-    from_small = omega (arith, in-register.first, p.sources.width.most)
+    from_small = omega (arith, in_register.first, p.sources.width.most)
 
-    pub lanes-there : Reach f.lane (8 * w / (k * f.lane)) z (From f.first) (k * f.lane / f.lane)
+    pub lanes_there : Reach f.lane (8 * w / (k * f.lane)) z (From f.first) (k * f.lane / f.lane)
         × Reach f.lane (8 * w / (k * f.lane)) z (From f.second) (k * f.lane / f.lane)
-    lanes-there =
+    lanes_there =
         rw steps (
-          reach p.sources (f.first + r) i k _ _ sources_lt.0 refl in-register.first,
-          reach p.sources (f.second + r) i k _ _ sources_lt.1 refl in-register.second,
+          reach p.sources (f.first + r) i k _ _ sources_lt.0 refl in_register.first,
+          reach p.sources (f.second + r) i k _ _ sources_lt.1 refl in_register.second,
         )
 
     module _ (v : ℕ) where
-      pub vector-there : v < w → (v * w + w ≤ length za) × (w % 8 ≡ 0) × (w ≤ 65536)
-      vector-there h = (
+      pub vector_there : v < w → (v * w + w ≤ length za) × (w % 8 ≡ 0) × (w ≤ 65536)
+      vector_there h = (
         omega (arith, next v w, room v w w za p.za_long h),
         omega (arith, p.sources.width.whole),
         omega (arith, p.sources.width.most),
@@ -158,6 +158,6 @@ module _ {f : Fields} {w : ℕ} {z za : List ℕ} (p : Places f w z za) (k : ℕ
           → Replaced (v * w) t (even_bytes f.lane (k * f.lane) f.unsigned f.subtract za (v * w) z (From f.first) (k * f.lane / f.lane) (From f.second) (k * f.lane / f.lane) w) za za'
           → Replaced (v * w) t (made f i w w v za (f.first + r) (f.second + r) z) za za'
       array_renewal za' t =
-          renewal p.sources i found w (whole-vector p) v (f.first + r) (f.second + r) za _ za' t
+          renewal p.sources i found w (whole_vector p) v (f.first + r) (f.second + r) za _ za' t
           (rw (by-k f p.into k ek i, steps)
           (even_bytes_lem f.lane (k * f.lane) f.unsigned f.subtract k i k i za (v * w) z ((f.first + r) * w) ((f.second + r) * w) _ _ w refl refl))

@@ -21,12 +21,12 @@ use Rattle.lanes.specs.Element.{new_bytes}
 use Rattle.recipes.proofs.Inside.{length-new_bytes}
 use Rattle.machine.specs.Loop.{made, Grid, place, becomes, Places}
 use Rattle.machine.proofs.Grid.{r_lt, i_lt, place_lt, place_distinct}
-use Rattle.machine.proofs.Array.{group_numbers, two_or-four-vectors, placed-to}
+use Rattle.machine.proofs.Array.{group_numbers, two_or_four_vectors, placed_to}
 
 module _ {f : Fields} {w : ℕ} {z za₀ : List ℕ} (p : Places f w z za₀) {stride k first : ℕ} (g : Grid w f.group stride k first) where
   -- 16 vectors at most
-  pub few-vectors : k ≡ per_source f.family → f.group * k ≤ 16
-  few-vectors e = by (group_numbers f p.sources.ranges p.into) (two_or-four-vectors f p.into k e)
+  pub few_vectors : k ≡ per_source f.family → f.group * k ≤ 16
+  few_vectors e = by (group_numbers f p.sources.ranges p.into) (two_or_four_vectors f p.into k e)
     where
       by : (f.group ≡ 2) ⊎ (f.group ≡ 4) → (k ≡ 2) ⊎ (k ≡ 4) → f.group * k ≤ 16
       by (inl a) (inl b) = rw (a, b) (omega arith)
@@ -46,7 +46,7 @@ module _ {f : Fields} {w : ℕ} {z za₀ : List ℕ} (p : Places f w z za₀) {s
   new = becomes f w first stride k z za₀
 
   so_far : (n : ℕ) → n ≤ f.group * k → Placed at new w w n za₀
-  so_far = placed-to f p.sources.ranges p.sources.width g z za₀ p.za_long
+  so_far = placed_to f p.sources.ranges p.sources.width g z za₀ p.za_long
 
   -- vector q is as it was until its turn
   not_yet : (q : ℕ) → q < f.group * k → vector_at w (at q) (replaced at new w q za₀) ≡ vector_at w (at q) za₀

@@ -35,8 +35,8 @@ unfolding numeral
 fifth_great k b s e h = simp (eq-eqb k 4 e, lt-ltb 15 b h)
 
 -- no last of several groups is zero
-not-zero : (k b : ℕ) → (b ≡ 0 → k ≡ 0) → (eqb b 0 && ltb 0 k) ≡ false
-not-zero k b h = failed _ (λ e. let p = both (eqb b 0) (ltb 0 k) e in omega (arith, h (eqb-true b 0 p.0), ltb-true 0 k p.1))
+not_zero : (k b : ℕ) → (b ≡ 0 → k ≡ 0) → (eqb b 0 && ltb 0 k) ≡ false
+not_zero k b h = failed _ (λ e. let p = both (eqb b 0) (ltb 0 k) e in omega (arith, h (eqb-true b 0 p.0), ltb-true 0 k p.1))
 
 -- a count above some number is not 0
 pub several : (n k : ℕ) → ltb n k ≡ true → 0 < k
@@ -48,7 +48,7 @@ zero_last k b s f e h = simp (f, lt-ltb b 128 (omega arith), eq-eqb b 0 e, lt-lt
 
 pub last_group : (k b : ℕ) (s : List ℕ) → ltb (greatest_byte k) b ≡ false → b < 128 → (b ≡ 0 → k ≡ 0) → numeral k (b ∷ s) ≡ got b 1
 unfolding numeral
-last_group k b s f h z = simp (f, lt-ltb b 128 h, not-zero k b z)
+last_group k b s f h z = simp (f, lt-ltb b 128 h, not_zero k b z)
 
 pub group_follows : (k b : ℕ) (s : List ℕ) → ltb (greatest_byte k) b ≡ false → 128 ≤ b → numeral k (b ∷ s) ≡ group_then (b - 128) (numeral (suc k) s)
 unfolding numeral
@@ -60,8 +60,8 @@ pub data Front (k b : ℕ) : Type 0 where
   ends : ltb (greatest_byte k) b ≡ false → b < 128 → (b ≡ 0 → k ≡ 0) → Front k b
   goes_on : ltb (greatest_byte k) b ≡ false → 128 ≤ b → Front k b
 
-first_or-some : (k b : ℕ) → (eqb b 0 && ltb 0 k) ≡ false → b ≡ 0 → k ≡ 0
-first_or-some k b h e = let g : ltb 0 k ≡ false = simp (eq-eqb b 0 e) at h in omega (arith, ltb-false 0 k g)
+first_or_some : (k b : ℕ) → (eqb b 0 && ltb 0 k) ≡ false → b ≡ 0 → k ≡ 0
+first_or_some k b h e = let g : ltb 0 k ≡ false = simp (eq-eqb b 0 e) at h in omega (arith, ltb-false 0 k g)
 
 pub front : (k b : ℕ) → Front k b
 unfolding numeral
@@ -70,5 +70,5 @@ front k b = go (ltb (greatest_byte k) b) (ltb b 128) (eqb b 0 && ltb 0 k) refl r
     go : (x y z : Bool) → ltb (greatest_byte k) b ≡ x → ltb b 128 ≡ y → (eqb b 0 && ltb 0 k) ≡ z → Front k b
     go true y z p q r = faulty (λ s. simp p)
     go false true true p q r = faulty (λ s. simp (p, q, r))
-    go false true false p q r = ends p (ltb-true b 128 q) (first_or-some k b r)
+    go false true false p q r = ends p (ltb-true b 128 q) (first_or_some k b r)
     go false false z p q r = goes_on p (ltb-false b 128 q)

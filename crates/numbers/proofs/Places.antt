@@ -13,7 +13,7 @@ use Rattle.numbers.specs.declared.Read.TheVariants.{Number, Fault}
 use Rattle.numbers.specs.Numbers.{Got, got, short, wrong, group_then, numeral, placed, number_at, put}
 use Rattle.numbers.specs.Theorems.{NoFurther}
 use Rattle.numbers.proofs.Groups.{fifth_last, last_group, group_follows, Front, faulty, ends, goes_on, front}
-use Rattle.numbers.proofs.Shortest.{put-length, read-put, read_shortest, read_length, read_small}
+use Rattle.numbers.proofs.Shortest.{put-length, read_put, read_shortest, read_length, read_small}
 
 -- ---- bytes
 
@@ -69,14 +69,14 @@ not_ended : (at : ℕ) (g : Got) → placed at g ≢ Fault ListEnds at → g ≢
 not_ended at g h e = h (ap (placed at) e)
 
 -- bytes after a list change nothing at a place of it, unless the list ended there
-not_ended-kept : (list t : List ℕ) (at : ℕ) → number_at list at ≢ Fault ListEnds at → number_at (list ++ t) at ≡ number_at list at
+not_ended_kept : (list t : List ℕ) (at : ℕ) → number_at list at ≢ Fault ListEnds at → number_at (list ++ t) at ≡ number_at list at
 unfolding number_at
-not_ended-kept list t at h = kept list t at (not_ended at (numeral 0 (drop at list)) h)
+not_ended_kept list t at h = kept list t at (not_ended at (numeral 0 (drop at list)) h)
 
 -- so a number stays
-pub number-kept : (list t : List ℕ) (at v n : ℕ) → number_at list at ≡ Number v n → number_at (list ++ t) at ≡ Number v n
-number-kept list t at v n e =
-    not_ended-kept list t at (λ (f : number_at list at ≡ Fault ListEnds at). let z : ◌≡◌ {A = ℕ} 0 1 = cc in omega arith) ∙ e
+pub number_kept : (list t : List ℕ) (at v n : ℕ) → number_at list at ≡ Number v n → number_at (list ++ t) at ≡ Number v n
+number_kept list t at v n e =
+    not_ended_kept list t at (λ (f : number_at list at ≡ Fault ListEnds at). let z : ◌≡◌ {A = ℕ} 0 1 = cc in omega arith) ∙ e
 
 -- with five bytes left, bytes after the list change nothing
 pub number_far : (list t : List ℕ) (at : ℕ) → at + 5 ≤ length list → number_at (list ++ t) at ≡ number_at list at
@@ -85,7 +85,7 @@ number_far list t at h = kept list t at (five_bytes 0 (drop at list) (omega arit
 -- what is put at a place is read there, and the place after it is that of what follows
 pub number_put : (before : List ℕ) (v : ℕ) (t : List ℕ) → v < 2 ^ 32 → number_at (before ++ (put v ++ t)) (length before) ≡ Number v (length before + length (put v))
 unfolding number_at
-number_put before v t h = ap (placed (length before)) (ap (numeral 0) (drop-append_seam before (put v ++ t)) ∙ read-put v t h)
+number_put before v t h = ap (placed (length before)) (ap (numeral 0) (drop-append_seam before (put v ++ t)) ∙ read_put v t h)
 
 -- a number is read from the bytes at its place, and the place after it follows them
 pub number-got : (list : List ℕ) (at v p : ℕ) → number_at list at ≡ Number v p → (m : ℕ) × (numeral 0 (drop at list) ≡ got v m) × (at + m ≡ p)
@@ -120,9 +120,9 @@ number_within list at v n h =
     }
 
 -- a fault is refusal 7 or 8, at the place where the number is due
-pub number-fault : (list : List ℕ) (at : ℕ) (k : Refusal) (p : ℕ) → number_at list at ≡ Fault k p → (p ≡ at) × ((k ≡ ListEnds) ⊎ (k ≡ BadNumber))
+pub number_fault : (list : List ℕ) (at : ℕ) (k : Refusal) (p : ℕ) → number_at list at ≡ Fault k p → (p ≡ at) × ((k ≡ ListEnds) ⊎ (k ≡ BadNumber))
 unfolding number_at
-number-fault list at k p h = go (numeral 0 (drop at list)) h
+number_fault list at k p h = go (numeral 0 (drop at list)) h
   where
     go : (g : Got) → placed at g ≡ Fault k p → (p ≡ at) × ((k ≡ ListEnds) ⊎ (k ≡ BadNumber))
     go (got w m) e = let z : ◌≡◌ {A = ℕ} 0 1 = cc in absurd (omega arith)

@@ -16,7 +16,7 @@ use Rattle.numbers.specs.declared.Read.TheVariants.{Number, Fault}
 use Rattle.numbers.specs.declared.Row.TheVariants as row
 use Rattle.numbers.specs.Numbers.{number_at, put, puts, Numbers, all, fault, followed_by, more, numbers_at, values_of, row_of, filled}
 use Rattle.numbers.proofs.Shortest.{put-length}
-use Rattle.numbers.proofs.Places.{number-kept, number_far, number_within, number-fault}
+use Rattle.numbers.proofs.Places.{number_kept, number_far, number_within, number_fault}
 
 -- ---- the last number of a row
 
@@ -118,7 +118,7 @@ row_kept list t at zero ws p e = e
 row_kept list t at (suc n) ws p e =
     let l = last_of list (numbers_at list at n) ws p e in
     ap (more (list ++ t)) (row_kept list t at n l.before l.place l.row)
-    ∙ ap (followed_by l.before) (number-kept list t l.place l.value p l.number)
+    ∙ ap (followed_by l.before) (number_kept list t l.place l.value p l.number)
     ∙ ap (λ (x : List ℕ). all x p) (sym l.numbers)
 
 far-more : (list t : List ℕ) (at n : ℕ) (m : Numbers) → at + 5 * suc n ≤ length list → numbers_at list at n ≡ m → more (list ++ t) m ≡ more list m
@@ -143,7 +143,7 @@ row-fault list at (suc n) vs k p h e =
     (λ (f : numbers_at list at n ≡ fault vs k p). row-fault list at n vs k p h f)
     (λ (f : FaultIs list (numbers_at list at n) vs k p).
     let w = row_within list at n vs f.place h f.row in
-    let here = number-fault list f.place k p f.number in
+    let here = number_fault list f.place k p f.number in
     (omega arith, here.1))
     (fault_of list (numbers_at list at n) vs k p e)
 
@@ -160,16 +160,16 @@ put_lengths_few [] = omega arith
 put_lengths_few (w ∷ ws) = omega (arith, put-length w, put_lengths_few ws, length-append (put w) (puts ws))
 
 -- the place after a row is that after the shortest forms of its numbers
-pub row-place : (list : List ℕ) (at n : ℕ) (ws : List ℕ) (p : ℕ) → numbers_at list at n ≡ all ws p → p ≡ at + length (puts ws)
+pub row_place : (list : List ℕ) (at n : ℕ) (ws : List ℕ) (p : ℕ) → numbers_at list at n ≡ all ws p → p ≡ at + length (puts ws)
 unfolding numbers_at puts
-row-place list at zero ws p e =
+row_place list at zero ws p e =
     let here : at ≡ p = cc in
     let none : [] ≡ ws = cc in
     omega (arith, ap (λ (x : List ℕ). length (puts x)) none)
-row-place list at (suc n) ws p e =
+row_place list at (suc n) ws p e =
     let l = last_of list (numbers_at list at n) ws p e in
     let w = number_within list l.place l.value p l.number in
-    let b = row-place list at n l.before l.place l.row in
+    let b = row_place list at n l.before l.place l.row in
     let last : length (puts ws) ≡ length (puts l.before) + length (put l.value) =
     ap length (ap puts l.numbers ∙ puts_last l.before l.value) ∙ length-append (puts l.before) (put l.value) in
     omega (arith, w.long)
@@ -258,10 +258,10 @@ module _ {list : List ℕ} {at : ℕ} {out₀ out : List ℕ} {due i : ℕ} (f :
       let split : length out₀ ≡ suc i + (length out₀ - suc i) = omega (arith, f.long) in
       rw split (fault_stays list at (suc i) (length out₀ - suc i) (take i out) k p here)
 
-  pub out-fault : (k : Refusal) (p : ℕ) → i < length out → number_at list due ≡ Fault k p
+  pub out_fault : (k : Refusal) (p : ℕ) → i < length out → number_at list due ≡ Fault k p
       → (row.Fault k p ≡ row_of (numbers_at list at (length out₀))) × (out ≡ filled (numbers_at list at (length out₀)) out₀)
   unfolding row_of values_of
-  out-fault k p h e =
+  out_fault k p h e =
       let m = stopped k p h e in
       (sym (ap row_of m), rest_stays (fault (take i out) k p) m refl)
 
@@ -270,8 +270,8 @@ module _ {list : List ℕ} {at : ℕ} {out₀ out : List ℕ} {due i : ℕ} (f :
       let whole : length out₀ ≡ i = omega (arith, f.long, f.room) in
       rw whole f.so_far
 
-  pub out-all : length out ≤ i → (row.Next due ≡ row_of (numbers_at list at (length out₀))) × (out ≡ filled (numbers_at list at (length out₀)) out₀)
+  pub out_all : length out ≤ i → (row.Next due ≡ row_of (numbers_at list at (length out₀))) × (out ≡ filled (numbers_at list at (length out₀)) out₀)
   unfolding row_of values_of
-  out-all h =
+  out_all h =
       let m = finished h in
       (sym (ap row_of m), rest_stays (all (take i out) due) m refl)

@@ -22,9 +22,9 @@ unfolding put_in
 put_last zero n h = refl
 put_last (suc f) n h = rw (lt-ltb n 128 h)
 
-put-more : (f n : ℕ) → 128 ≤ n → put_in (suc f) n ≡ (128 + n % 128) ∷ put_in f (n / 128)
+put_more : (f n : ℕ) → 128 ≤ n → put_in (suc f) n ≡ (128 + n % 128) ∷ put_in f (n / 128)
 unfolding put_in
-put-more f n h = rw (le-ltb n 128 h)
+put_more f n h = rw (le-ltb n 128 h)
 
 put_some : (f n : ℕ) → 0 < length (put_in f n)
 unfolding put_in
@@ -44,27 +44,27 @@ unfolding put
 put-length v = (put_some 4 v, put_few 4 v)
 
 -- one of one group has one
-pub put-length_1 : (v : ℕ) → v < 128 → length (put v) ≡ 1
+pub put_length_1 : (v : ℕ) → v < 128 → length (put v) ≡ 1
 unfolding put
-put-length_1 v h = ap length (put_last 4 v h)
+put_length_1 v h = ap length (put_last 4 v h)
 
 -- one of at most two groups has at most two
-pub put-length_2 : (v : ℕ) → v < 16384 → length (put v) ≤ 2
+pub put_length_2 : (v : ℕ) → v < 16384 → length (put v) ≤ 2
 unfolding put
-put-length_2 v h =
+put_length_2 v h =
     elim (dec_lt v 128) [
-      | yes y ↦ omega (arith, put-length_1 v y)
+      | yes y ↦ omega (arith, put_length_1 v y)
       | no n ↦
-          let e : length (put_in 4 v) ≡ 2 = ap length (put-more 3 v (omega arith)) ∙ ap (λ (l : List ℕ). suc (length l)) (put_last 3 (v / 128) (omega arith)) in
+          let e : length (put_in 4 v) ≡ 2 = ap length (put_more 3 v (omega arith)) ∙ ap (λ (l : List ℕ). suc (length l)) (put_last 3 (v / 128) (omega arith)) in
           omega arith
     ]
 
 -- ---- what is put is read back
 
-put-read : (f k n : ℕ) (t : List ℕ) → k + f ≡ 4 → n < 16 * 128 ^ f → (n ≡ 0 → k ≡ 0) → numeral k (put_in f n ++ t) ≡ got n (length (put_in f n))
+put_read : (f k n : ℕ) (t : List ℕ) → k + f ≡ 4 → n < 16 * 128 ^ f → (n ≡ 0 → k ≡ 0) → numeral k (put_in f n ++ t) ≡ got n (length (put_in f n))
 unfolding put_in
-put-read zero k n t e l z = last_group k n t (fits_fifth k n (omega arith) (omega arith)) (omega arith) z
-put-read (suc f) k n t e l z = go (put-read f (suc k) (n / 128) t) (dec_lt n 128)
+put_read zero k n t e l z = last_group k n t (fits_fifth k n (omega arith) (omega arith)) (omega arith) z
+put_read (suc f) k n t e l z = go (put_read f (suc k) (n / 128) t) (dec_lt n 128)
   where
     go : (suc k + f ≡ 4 → n / 128 < 16 * 128 ^ f → (n / 128 ≡ 0 → suc k ≡ 0) → numeral (suc k) (put_in f (n / 128) ++ t) ≡ got (n / 128) (length (put_in f (n / 128))))
         → Dec (n < 128) → numeral k (put_in (suc f) n ++ t) ≡ got n (length (put_in (suc f) n))
@@ -76,9 +76,9 @@ put-read (suc f) k n t e l z = go (put-read f (suc k) (n / 128) t) (dec_lt n 128
         ∙ ap₂ got (omega arith) refl)
 
 -- what is put is read back, whatever follows
-pub read-put : ReadBack
+pub read_put : ReadBack
 unfolding put
-read-put n t h = put-read 4 0 n t refl h (λ _. refl)
+read_put n t h = put_read 4 0 n t refl h (λ _. refl)
 
 -- ---- what is read was put so
 
@@ -102,11 +102,11 @@ whole_last k f b s e h l z =
       first = z;
     }
 
-whole-more : (k f b : ℕ) (s : List ℕ) (w m : ℕ) → 128 ≤ b → b < 256 → Whole (suc k) f s w m → Whole k (suc f) (b ∷ s) (b - 128 + 128 * w) (suc m)
-whole-more k f b s w m h l r =
+whole_more : (k f b : ℕ) (s : List ℕ) (w m : ℕ) → 128 ≤ b → b < 256 → Whole (suc k) f s w m → Whole k (suc f) (b ∷ s) (b - 128 + 128 * w) (suc m)
+whole_more k f b s w m h l r =
     let v : ℕ = b - 128 + 128 * w in
     let some : w ≢ 0 = λ (q : w ≡ 0). omega (arith, r.first q) in
-    let p : put_in (suc f) v ≡ b ∷ put_in f w = put-more f v (omega arith) ∙ ap₂ (λ (x y : ℕ). x ∷ put_in f y) (omega arith) (omega arith) in
+    let p : put_in (suc f) v ≡ b ∷ put_in f w = put_more f v (omega arith) ∙ ap₂ (λ (x y : ℕ). x ∷ put_in f y) (omega arith) (omega arith) in
     record {
       taken = ap (λ (t : List ℕ). b ∷ t) r.taken ∙ sym p;
       count = ap suc r.count ∙ sym (ap length p);
@@ -115,22 +115,22 @@ whole-more k f b s w m h l r =
     }
 
 module _ (k b : ℕ) (s : List ℕ) (v n : ℕ) (h : numeral k (b ∷ s) ≡ got v n) (p : ltb (greatest_byte k) b ≡ false) (l : 128 ≤ b) where
-  over-rest : (f : ℕ) → k + suc f ≡ 4 → (g : Got) → numeral (suc k) s ≡ g → ((w m : ℕ) → numeral (suc k) s ≡ got w m → Whole (suc k) f s w m) → Whole k (suc f) (b ∷ s) v n
-  over-rest f e (got w m) q ih =
+  over_rest : (f : ℕ) → k + suc f ≡ 4 → (g : Got) → numeral (suc k) s ≡ g → ((w m : ℕ) → numeral (suc k) s ≡ got w m → Whole (suc k) f s w m) → Whole k (suc f) (b ∷ s) v n
+  over_rest f e (got w m) q ih =
       let a : got (b - 128 + 128 * w) (suc m) ≡ got v n = ap (group_then (b - 128)) (sym q) ∙ sym (group_follows k b s p l) ∙ h in
       let x : b - 128 + 128 * w ≡ v = cc in
       let y : suc m ≡ n = cc in
-      subst₂ (λ (i j : ℕ). Whole k (suc f) (b ∷ s) i j) x y (whole-more k f b s w m l (other_small k b (fifth_last k b p l) p) (ih w m q))
-  over-rest f e short q ih =
+      subst₂ (λ (i j : ℕ). Whole k (suc f) (b ∷ s) i j) x y (whole_more k f b s w m l (other_small k b (fifth_last k b p l) p) (ih w m q))
+  over_rest f e short q ih =
       let a : short ≡ got v n = ap (group_then (b - 128)) (sym q) ∙ sym (group_follows k b s p l) ∙ h in
       let z : ◌≡◌ {A = ℕ} 0 1 = cc in absurd (omega arith)
-  over-rest f e wrong q ih =
+  over_rest f e wrong q ih =
       let a : wrong ≡ got v n = ap (group_then (b - 128)) (sym q) ∙ sym (group_follows k b s p l) ∙ h in
       let z : ◌≡◌ {A = ℕ} 0 1 = cc in absurd (omega arith)
 
   over : (f : ℕ) → k + f ≡ 4 → ((j w m : ℕ) → suc k + j ≡ 4 → numeral (suc k) s ≡ got w m → Whole (suc k) j s w m) → Whole k f (b ∷ s) v n
   over zero e ih = absurd (fifth_last k b p l (omega arith))
-  over (suc f) e ih = over-rest f e (numeral (suc k) s) refl (λ w m. ih f w m (omega arith))
+  over (suc f) e ih = over_rest f e (numeral (suc k) s) refl (λ w m. ih f w m (omega arith))
 
 whole : (k f : ℕ) (s : List ℕ) (v n : ℕ) → k + f ≡ 4 → numeral k s ≡ got v n → Whole k f s v n
 unfolding numeral

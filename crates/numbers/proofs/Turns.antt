@@ -30,10 +30,10 @@ pub record Reading (list : List ℕ) (at i k s v : ℕ) : Type 0 where
   pub same : numeral 0 (drop at list) ≡ above v s k (numeral k (drop i list))
 
 -- none yet
-above-none : (x : Got) → x ≡ above 0 1 0 x
-above-none (got w n) = ap₂ got (omega arith) (omega arith)
-above-none short = refl
-above-none wrong = refl
+above_none : (x : Got) → x ≡ above 0 1 0 x
+above_none (got w n) = ap₂ got (omega arith) (omega arith)
+above_none short = refl
+above_none wrong = refl
 
 pub start : (list : List ℕ) (at : ℕ) → Reading list at at 0 1 0
 start list at =
@@ -42,7 +42,7 @@ start list at =
       scale = refl;
       small = omega arith;
       place = omega arith;
-      same = above-none (numeral 0 (drop at list));
+      same = above_none (numeral 0 (drop at list));
     }
 
 -- one more
@@ -52,12 +52,12 @@ above_group v s k g short = refl
 above_group v s k g wrong = refl
 
 -- the byte at i is in front of the rest
-pub byte-first : (list : List ℕ) (i k : ℕ) → i < length list → numeral k (drop i list) ≡ numeral k (get_or list i 0 ∷ drop (suc i) list)
-byte-first list i k h = ap (numeral k) (drop-cons list i 0 h)
+pub byte_first : (list : List ℕ) (i k : ℕ) → i < length list → numeral k (drop i list) ≡ numeral k (get_or list i 0 ∷ drop (suc i) list)
+byte_first list i k h = ap (numeral k) (drop-cons list i 0 h)
 
 -- four groups have 28 bits, and three 21
-scale_of-four : (k : ℕ) → k ≤ 4 → 128 ^ k ≤ 268435456
-scale_of-four k h = pow-le-pow_right (omega arith) h
+scale_of_four : (k : ℕ) → k ≤ 4 → 128 ^ k ≤ 268435456
+scale_of_four k h = pow-le-pow_right (omega arith) h
 
 scale_of_three : (k : ℕ) → k ≤ 3 → 128 ^ k ≤ 2097152
 scale_of_three k h = pow-le-pow_right (omega arith) h
@@ -89,13 +89,13 @@ module _ {list : List ℕ} {at i k s v : ℕ} (r : Reading list at i k s v) wher
         | no n ↦
             let g : b ≤ 15 = fifth_small k b (omega (arith, r.few)) f in
             let m : b * s ≤ 15 * s = mul-le-mul_right s g in
-            omega (arith, r.small, r.scale, scale_of-four k r.few)
+            omega (arith, r.small, r.scale, scale_of_four k r.few)
       ]
 
   -- the ways out
-  pub out-ends : length list ≤ i → Fault ListEnds at ≡ number_at list at
+  pub out_ends : length list ≤ i → Fault ListEnds at ≡ number_at list at
   unfolding number_at numeral
-  out-ends h =
+  out_ends h =
       let e : numeral 0 (drop at list) ≡ short = r.same ∙ ap (λ (l : List ℕ). above v s k (numeral k l)) (drop_of_length-le list h) in
       ap (placed at) (sym e)
 
@@ -105,9 +105,9 @@ module _ {list : List ℕ} {at i k s v : ℕ} (r : Reading list at i k s v) wher
       let e : numeral 0 (drop at list) ≡ wrong = r.same ∙ ap (above v s k) h in
       ap (placed at) (sym e)
 
-  pub out-read : (b : ℕ) → numeral k (drop i list) ≡ got b 1 → Number (v + b * s) (i + 1) ≡ number_at list at
+  pub out_read : (b : ℕ) → numeral k (drop i list) ≡ got b 1 → Number (v + b * s) (i + 1) ≡ number_at list at
   unfolding number_at
-  out-read b h =
+  out_read b h =
       let e : numeral 0 (drop at list) ≡ got (v + s * b) (k + 1) = r.same ∙ ap (above v s k) h in
       ap₂ Number (omega (arith, mul_comm s b)) (omega (arith, r.place)) ∙ ap (placed at) (sym e)
 

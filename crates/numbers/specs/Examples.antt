@@ -7,9 +7,9 @@ use Rattle.numbers.specs.Numbers.{numeral, number_at, put_in, put, all, fault, n
 
 -- ---- numbers that are read, and how they are put
 
-zero-read : number_at (0x00 ∷ []) 0 ≡ Number 0 1
+zero_read : number_at (0x00 ∷ []) 0 ≡ Number 0 1
 unfolding number_at numeral
-zero-read = refl
+zero_read = refl
 
 one_group : number_at (0x7F ∷ []) 0 ≡ Number 127 1
 unfolding number_at numeral
@@ -19,9 +19,9 @@ two_groups : number_at (0x80 ∷ 0x01 ∷ []) 0 ≡ Number 128 2
 unfolding number_at numeral
 two_groups = refl
 
-low_group-first : number_at (0xAC ∷ 0x02 ∷ []) 0 ≡ Number 300 2
+low_group_first : number_at (0xAC ∷ 0x02 ∷ []) 0 ≡ Number 300 2
 unfolding number_at numeral
-low_group-first = refl
+low_group_first = refl
 
 greatest : number_at (0xFF ∷ 0xFF ∷ 0xFF ∷ 0xFF ∷ 0x0F ∷ []) 0 ≡ Number 4294967295 5
 unfolding number_at numeral
@@ -47,9 +47,9 @@ greatest-put = refl
 
 -- ---- 7: the list ends
 
-nothing-there : number_at [] 0 ≡ Fault ListEnds 0
+nothing_there : number_at [] 0 ≡ Fault ListEnds 0
 unfolding number_at numeral
-nothing-there = refl
+nothing_there = refl
 
 before_one : number_at (0x01 ∷ 0x02 ∷ []) 2 ≡ Fault ListEnds 2
 unfolding number_at numeral
@@ -59,15 +59,15 @@ inside_one : number_at (0x01 ∷ 0x80 ∷ []) 1 ≡ Fault ListEnds 1
 unfolding number_at numeral
 inside_one = refl
 
-after-four : number_at (0x80 ∷ 0x80 ∷ 0x80 ∷ 0x80 ∷ []) 0 ≡ Fault ListEnds 0
+after_four : number_at (0x80 ∷ 0x80 ∷ 0x80 ∷ 0x80 ∷ []) 0 ≡ Fault ListEnds 0
 unfolding number_at numeral
-after-four = refl
+after_four = refl
 
 -- ---- 8: the number is wrong
 
-last-zero : number_at (0x80 ∷ 0x00 ∷ []) 0 ≡ Fault BadNumber 0
+last_zero : number_at (0x80 ∷ 0x00 ∷ []) 0 ≡ Fault BadNumber 0
 unfolding number_at numeral
-last-zero = refl
+last_zero = refl
 
 -- the place is the number's first byte, and not that of the group
 last_of_three : number_at (0x05 ∷ 0x81 ∷ 0x80 ∷ 0x00 ∷ []) 1 ≡ Fault BadNumber 1
@@ -78,9 +78,9 @@ fifth_sixteen : number_at (0xFF ∷ 0xFF ∷ 0xFF ∷ 0xFF ∷ 0x10 ∷ []) 0 �
 unfolding number_at numeral
 fifth_sixteen = refl
 
-fifth-zero : number_at (0x80 ∷ 0x80 ∷ 0x80 ∷ 0x80 ∷ 0x00 ∷ []) 0 ≡ Fault BadNumber 0
+fifth_zero : number_at (0x80 ∷ 0x80 ∷ 0x80 ∷ 0x80 ∷ 0x00 ∷ []) 0 ≡ Fault BadNumber 0
 unfolding number_at numeral
-fifth-zero = refl
+fifth_zero = refl
 
 -- a sixth group that would follow is never looked for
 fifth_follows : number_at (0x80 ∷ 0x80 ∷ 0x80 ∷ 0x80 ∷ 0x80 ∷ []) 0 ≡ Fault BadNumber 0
@@ -89,9 +89,9 @@ fifth_follows = refl
 
 -- ---- rows
 
-seven-read : numbers_at (0x80 ∷ 0x01 ∷ 0x0C ∷ 0x03 ∷ 0x00 ∷ 0x00 ∷ 0x00 ∷ 0x00 ∷ 0x01 ∷ []) 0 7 ≡ all (128 ∷ 12 ∷ 3 ∷ 0 ∷ 0 ∷ 0 ∷ 0 ∷ []) 8
+seven_read : numbers_at (0x80 ∷ 0x01 ∷ 0x0C ∷ 0x03 ∷ 0x00 ∷ 0x00 ∷ 0x00 ∷ 0x00 ∷ 0x01 ∷ []) 0 7 ≡ all (128 ∷ 12 ∷ 3 ∷ 0 ∷ 0 ∷ 0 ∷ 0 ∷ []) 8
 unfolding numbers_at number_at numeral
-seven-read = refl
+seven_read = refl
 
 -- the first fault decides
 wrong_in_it : numbers_at (0x05 ∷ 0x81 ∷ 0x00 ∷ 0x80 ∷ []) 0 3 ≡ fault (5 ∷ []) BadNumber 1

@@ -8,7 +8,7 @@ use lib.Arith.{digits_div, digits_mod}
 use Rattle.laws.proofs.Tests.{cond_yes, cond_no}
 use Rattle.settings.specs.Refused.{refusal_number}
 use Rattle.settings.specs.declared.Refusal.{Refusal}
-use Rattle.settings.proofs.Refusals.{tests-not_0}
+use Rattle.settings.proofs.Refusals.{tests_not_0}
 use Rattle.words.specs.Decode.{decoded_says}
 use Rattle.words.specs.declared.Fields.{Fields}
 use Rattle.words.specs.declared.Decoded.{Decoded}
@@ -26,8 +26,8 @@ use Rattle.packing.specs.Theorems.{HalvesBack}
 
 -- ---- the halves
 
-pub halves-back : HalvesBack
-halves-back refusal value h = ap₂ (λ (a b : ℕ). (a, b)) (digits_mod value h) (digits_div value h)
+pub halves_back : HalvesBack
+halves_back refusal value h = ap₂ (λ (a b : ℕ). (a, b)) (digits_mod value h) (digits_div value h)
 
 -- ---- fields
 
@@ -36,37 +36,37 @@ module _ (n : List ℕ) where
   unfolding fields_from
   no_fields e = cond_no (are_fields n) _ _ _ e refl
 
-  pub some-fields : (f : Fields) → are_fields n ≡ true → f ≡ fields_with (family_of (get_or n field_at.family 0)) n → Are f ≡ fields_from n
+  pub some_fields : (f : Fields) → are_fields n ≡ true → f ≡ fields_with (family_of (get_or n field_at.family 0)) n → Are f ≡ fields_from n
   unfolding fields_from
-  some-fields f e g = cond_yes (are_fields n) _ _ _ e (ap Are g)
+  some_fields f e g = cond_yes (are_fields n) _ _ _ e (ap Are g)
 
 -- ---- decode
 
 module _ (a : Decoded) (fields : List ℕ) where
-  pub decoded-refused : (x : Refusal) (r : ℕ) → a ≡ decoded.Refused x → halves r ≡ (refusal_number x, 0)
+  pub decoded_refused : (x : Refusal) (r : ℕ) → a ≡ decoded.Refused x → halves r ≡ (refusal_number x, 0)
       → (halves r, fields) ≡ decoded_into (decoded_says a) fields
-  decoded-refused x r e h = rw (e, tests-not_0 x) (ap (λ (p : ℕ × ℕ). (p, fields)) h)
+  decoded_refused x r e h = rw (e, tests_not_0 x) (ap (λ (p : ℕ × ℕ). (p, fields)) h)
 
-  pub decoded-word : (f : Fields) (fields' : List ℕ) → a ≡ decoded.Word f → fields' ≡ field_numbers f
+  pub decoded_word : (f : Fields) (fields' : List ℕ) → a ≡ decoded.Word f → fields' ≡ field_numbers f
       → (halves 0, fields') ≡ decoded_into (decoded_says a) fields
-  decoded-word f fields' e h = rw e (ap (λ (n : List ℕ). (halves 0, n)) h)
+  decoded_word f fields' e h = rw e (ap (λ (n : List ℕ). (halves 0, n)) h)
 
 -- ---- execute
 
 module _ (a : Executed) (counts : List ℕ) where
-  pub executed-refused : (x : Refusal) (r : ℕ) → a ≡ executed.Refused x → halves r ≡ (refusal_number x, 0) → ExecutedPut a counts r counts
-  executed-refused x r e h z za =
-      rw (e, tests-not_0 x) (ap (λ (p : ℕ × ℕ). record { answer = p; z = z; za = za; counts = counts }) h)
+  pub executed_refused : (x : Refusal) (r : ℕ) → a ≡ executed.Refused x → halves r ≡ (refusal_number x, 0) → ExecutedPut a counts r counts
+  executed_refused x r e h z za =
+      rw (e, tests_not_0 x) (ap (λ (p : ℕ × ℕ). record { answer = p; z = z; za = za; counts = counts }) h)
 
-  pub executed-done : (c : Counts) → a ≡ executed.Done c → ExecutedPut a counts 0 (c.rises ∷ c.falls ∷ c.written ∷ [])
-  executed-done c e z za = rw e
+  pub executed_done : (c : Counts) → a ≡ executed.Done c → ExecutedPut a counts 0 (c.rises ∷ c.falls ∷ c.written ∷ [])
+  executed_done c e z za = rw e
 
 -- ---- run
 
 module _ (a : RunAnswer) (totals : List ℕ) where
-  pub ran-refused : (x : Refusal) (p r : ℕ) → a ≡ answer.Refused x p → halves r ≡ (refusal_number x, p) → RanPut a totals r totals
-  ran-refused x p r e h z za report =
-      rw (e, tests-not_0 x) (ap (λ (q : ℕ × ℕ). record { answer = q; z = z; za = za; report = report; totals = totals }) h)
+  pub ran_refused : (x : Refusal) (p r : ℕ) → a ≡ answer.Refused x p → halves r ≡ (refusal_number x, p) → RanPut a totals r totals
+  ran_refused x p r e h z za report =
+      rw (e, tests_not_0 x) (ap (λ (q : ℕ × ℕ). record { answer = q; z = z; za = za; report = report; totals = totals }) h)
 
-  pub ran-done : (n : ℕ) (t : Tally) → a ≡ answer.Ran n t → RanPut a totals 0 (n ∷ t.rises ∷ t.falls ∷ t.written ∷ [])
-  ran-done n t e z za report = rw e
+  pub ran_done : (n : ℕ) (t : Tally) → a ≡ answer.Ran n t → RanPut a totals 0 (n ∷ t.rises ∷ t.falls ∷ t.written ∷ [])
+  ran_done n t e z za report = rw e

@@ -11,7 +11,7 @@ use Rattle.laws.proofs.Lists.{elements, elements_are}
 use Rattle.laws.proofs.Tests.{both, by_cond}
 use Rattle.words.specs.Numbers.{family_of}
 use Rattle.words.specs.declared.Fields.{Fields}
-use Rattle.words.proofs.Numbers.{family_range, family-back, number_family, bit_range, bit-back, number_bit}
+use Rattle.words.proofs.Numbers.{family_range, family_back, number_family, bit_range, bit_back, number_bit}
 use Rattle.packing.specs.Packing.{field_at, field_numbers, are_fields, fields_with, fields_from}
 use Rattle.packing.specs.Theorems.{AnswerBack, FieldsBack, NumbersBack}
 use Rattle.packing.specs.declared.GivenFields.{GivenFields}
@@ -28,7 +28,7 @@ pub fields_back : FieldsBack
 unfolding fields_from
 fields_back f =
     let g = family_range f.family in
-    rw (le-leb _ _ g.0, le-leb _ _ g.1, le-leb _ _ (bit_range f.unsigned), le-leb _ _ (bit_range f.subtract), family-back f.family, bit-back f.unsigned, bit-back f.subtract)
+    rw (le-leb _ _ g.0, le-leb _ _ g.1, le-leb _ _ (bit_range f.unsigned), le-leb _ _ (bit_range f.subtract), family_back f.family, bit_back f.unsigned, bit_back f.subtract)
 
 -- twelve numbers, of which the first three are in range
 numbers_are : (n : List ℕ) → length n ≡ 12 → are_fields n ≡ true → field_numbers (fields_with (family_of (get_or n field_at.family 0)) n) ≡ n
@@ -44,9 +44,9 @@ are : GivenFields → Fields → Fields
 are (Are f) g = f
 are Nothing g = g
 
-pub numbers-back : NumbersBack
+pub numbers_back : NumbersBack
 unfolding fields_from are
-numbers-back n f e =
+numbers_back n f e =
     by_cond (are_fields n) (Are (fields_with (family_of (get_or n field_at.family 0)) n)) Nothing (Are f)
     (λ t g. ap field_numbers (sym (ap (λ (x : GivenFields). are x f) g)) ∙ numbers_are n e t)
     (λ _ g. let z : ◌≡◌ {A = ℕ} 0 1 = cc in absurd (omega arith))

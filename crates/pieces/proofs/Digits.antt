@@ -76,9 +76,9 @@ unfolding decimal decimal_up_to
 decimal_one n h = rw (mod-eq_of_lt h, lt-ltb n 10 h)
 
 -- from 10 on they are those of n / 10, and the last
-pub decimal-more : (n : ℕ) → 10 ≤ n → decimal n ≡ decimal (n / 10) ++ glyph_of (n % 10) ∷ []
+pub decimal_more : (n : ℕ) → 10 ≤ n → decimal n ≡ decimal (n / 10) ++ glyph_of (n % 10) ∷ []
 unfolding decimal decimal_up_to
-decimal-more n h = rw (le-ltb n 10 h, enough n (suc (n / 10)) (n / 10) (omega arith) (omega arith))
+decimal_more n h = rw (le-ltb n 10 h, enough n (suc (n / 10)) (n / 10) (omega arith) (omega arith))
 
 -- what holds of the numbers below 10, and of n where it holds of n / 10, holds of each number
 pub by_tens : (P : ℕ → Type 0) → ((n : ℕ) → n < 10 → P n) → ((n : ℕ) → 10 ≤ n → P (n / 10) → P n) → (k n : ℕ) → n < k → P n
@@ -90,7 +90,7 @@ pub length_one : (n : ℕ) → n < 10 → length (decimal n) ≡ 1
 length_one n h = rw (decimal_one n h)
 
 pub length_more : (n : ℕ) → 10 ≤ n → length (decimal n) ≡ suc (length (decimal (n / 10)))
-length_more n h = rw (decimal-more n h, length-append) (omega arith)
+length_more n h = rw (decimal_more n h, length-append) (omega arith)
 
 pub length-decimal : (k n : ℕ) → n < 10 ^ suc k → length (decimal n) ≤ suc k
 length-decimal zero n h = omega (arith, length_one n h)
@@ -113,7 +113,7 @@ decimal-digits n =
     by_tens (λ (x : ℕ). decimal x ≡ digits 10 (length (decimal x)) x)
     (λ (x : ℕ) (t : x < 10). rw (decimal_one x t, mod-eq_of_lt t))
     (λ (x : ℕ) (t : 10 ≤ x) (e : decimal (x / 10) ≡ digits 10 (length (decimal (x / 10))) (x / 10)).
-    rw (length_more x t) (decimal-more x t ∙ ap (λ (s : List ℕ). s ++ glyph_of (x % 10) ∷ []) e))
+    rw (length_more x t) (decimal_more x t ∙ ap (λ (s : List ℕ). s ++ glyph_of (x % 10) ∷ []) e))
     (suc n) n (omega arith)
 
 -- they read back as the number
@@ -122,16 +122,16 @@ value-decimal n =
     by_tens (λ (x : ℕ). value_of 10 (decimal x) ≡ x)
     (λ (x : ℕ) (t : x < 10). rw (decimal_one x t) (omega (arith, digit_of_glyph x (omega arith))))
     (λ (x : ℕ) (t : 10 ≤ x) (e : value_of 10 (decimal (x / 10)) ≡ x / 10).
-    rw (decimal-more x t, read_last 10 0 (glyph_of (x % 10)) (decimal (x / 10)), e, digit_of_glyph (x % 10) (omega arith)) (omega arith))
+    rw (decimal_more x t, read_last 10 0 (glyph_of (x % 10)) (decimal (x / 10)), e, digit_of_glyph (x % 10) (omega arith)) (omega arith))
     (suc n) n (omega arith)
 
 -- no zero stands in front, but in 0 itself
-pub no-zero_in_front : (n : ℕ) → 0 < n → get_or (decimal n) 0 0 ≢ 48
-no-zero_in_front n some =
+pub no_zero_in_front : (n : ℕ) → 0 < n → get_or (decimal n) 0 0 ≢ 48
+no_zero_in_front n some =
     by_tens (λ (x : ℕ). 0 < x → get_or (decimal x) 0 0 ≢ 48)
     (λ (x : ℕ) (t : x < 10) (h : 0 < x). rw (decimal_one x t, lt-ltb x 10 t) (λ (e : 48 + x ≡ 48). omega arith))
     (λ (x : ℕ) (t : 10 ≤ x) (e : 0 < x / 10 → get_or (decimal (x / 10)) 0 0 ≢ 48) (h : 0 < x).
-    rw (decimal-more x t, get_or-append (decimal (x / 10)) (glyph_of (x % 10) ∷ []) 0 0 (some-decimal (x / 10))) (e (omega arith)))
+    rw (decimal_more x t, get_or-append (decimal (x / 10)) (glyph_of (x % 10) ∷ []) 0 0 (some-decimal (x / 10))) (e (omega arith)))
     (suc n) n (omega arith) some
 
 -- ---- a word

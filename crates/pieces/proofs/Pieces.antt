@@ -76,8 +76,8 @@ copied out at t h = record { ends = refl; fits = h; bytes = rw (take-length t) }
 abbrev pub Placed : List ℕ → ℕ → List ℕ → ℕ → List ℕ → Type 0
 Placed t at l i out = out ≡ take (at + i) l ++ drop i t ++ drop (at + length t) l
 
-pub none-placed : (t : List ℕ) (at : ℕ) (l : List ℕ) (i : ℕ) → i ≡ length t → Placed t at l i l
-none-placed t at l i e = rw (e, drop_of_length-le t {i = length t} (omega arith), append-nil) (sym (take-append-drop (at + length t) l))
+pub none_placed : (t : List ℕ) (at : ℕ) (l : List ℕ) (i : ℕ) → i ≡ length t → Placed t at l i l
+none_placed t at l i e = rw (e, drop_of_length-le t {i = length t} (omega arith), append-nil) (sym (take-append-drop (at + length t) l))
 
 one_placed : (t : List ℕ) (at : ℕ) (l : List ℕ) (j c : ℕ) (out : List ℕ) → at + length t ≤ length l → j < length t → c ≡ get_or t j 0
     → Placed t at l (suc j) out → Placed t at l j (set out (at + j) c)

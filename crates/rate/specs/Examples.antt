@@ -2,8 +2,8 @@
 use Rattle.std.specs.Prelude.{◌-◌, ◌^◌, ◌≡◌, refl}
 use Rattle.rate.specs.Rate.{percent_of}
 
-all-bits : percent_of 1024 1024 ≡ 100
-all-bits = refl
+all_bits : percent_of 1024 1024 ≡ 100
+all_bits = refl
 
 nothing_written : percent_of 0 0 ≡ 0
 nothing_written = refl

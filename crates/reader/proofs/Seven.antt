@@ -24,13 +24,13 @@ one_longer : (ws : List ℕ) (w : ℕ) → length (ws ++ w ∷ []) ≡ suc (leng
 one_longer ws w = omega (arith, length-append ws (w ∷ []))
 
 -- one answer more, t, at the place p: where the reader stands then
-stands-behind : (list ws : List ℕ) (n p : ℕ) (t : Read) → number_at list p ≡ t → length ws ≡ n → Stands list (followed_by ws t) (suc n) (place_after t p)
-stands-behind list ws n p (Number w next) e c = (one_longer ws w ∙ ap suc c, refl)
-stands-behind list ws n p (Fault k q) e c = e
+stands_behind : (list ws : List ℕ) (n p : ℕ) (t : Read) → number_at list p ≡ t → length ws ≡ n → Stands list (followed_by ws t) (suc n) (place_after t p)
+stands_behind list ws n p (Number w next) e c = (one_longer ws w ∙ ap suc c, refl)
+stands_behind list ws n p (Fault k q) e c = e
 
 stands-more : (list : List ℕ) (m : Numbers) (n p : ℕ) (t : Read) → t ≡ number_at list p → Stands list m n p → Stands list (more list m) (suc n) (place_after t p)
 stands-more list (all ws q) n p t e s =
-    subst (λ (r : Read). Stands list (followed_by ws r) (suc n) (place_after t p)) (e ∙ ap (number_at list) s.1) (stands-behind list ws n p t (sym e) s.0)
+    subst (λ (r : Read). Stands list (followed_by ws r) (suc n) (place_after t p)) (e ∙ ap (number_at list) s.1) (stands_behind list ws n p t (sym e) s.0)
 stands-more list (fault ws k q) n p t e s = ap (λ (r : Read). number_at list (place_after r p)) (e ∙ s) ∙ s
 
 -- how the row ended, if t was its last
@@ -45,21 +45,21 @@ ended-more list (all ws q) n p t e s = ended_by ws t ∙ ap (λ (r : Read). row_
 ended-more list (fault ws k q) n p t e s = ap end_of (e ∙ s)
 
 -- and what stands in out
-stored-behind : (ws : List ℕ) (n : ℕ) (out : List ℕ) (t : Read) → length ws ≡ n → n < length out
+stored_behind : (ws : List ℕ) (n : ℕ) (out : List ℕ) (t : Read) → length ws ≡ n → n < length out
     → stored_at t n (ws ++ drop (length ws) out) ≡ filled (followed_by ws t) out
 unfolding filled values_of
-stored-behind ws n out (Number w next) c h =
+stored_behind ws n out (Number w next) c h =
     ap (λ (x : List ℕ). set (ws ++ x) n w) (drop-cons out (length ws) 0 (omega (arith, c, h)))
     ∙ set_at ws (get_or out (length ws) 0) (drop (suc (length ws)) out) w n c
     ∙ ap (λ (k : ℕ). ws ++ w ∷ drop k out) (sym (one_longer ws w))
     ∙ sym (append_assoc ws (w ∷ []) (drop (length (ws ++ w ∷ [])) out))
-stored-behind ws n out (Fault k q) c h = refl
+stored_behind ws n out (Fault k q) c h = refl
 
 stored_more : (list : List ℕ) (m : Numbers) (n p : ℕ) (out : List ℕ) (t : Read) → t ≡ number_at list p → Stands list m n p → n < length out
     → stored_at t n (filled m out) ≡ filled (more list m) out
 unfolding filled values_of
 stored_more list (all ws q) n p out t e s h =
-    stored-behind ws n out t s.0 h ∙ ap (λ (r : Read). filled (followed_by ws r) out) (e ∙ ap (number_at list) s.1)
+    stored_behind ws n out t s.0 h ∙ ap (λ (r : Read). filled (followed_by ws r) out) (e ∙ ap (number_at list) s.1)
 stored_more list (fault ws k q) n p out t e s h = ap (λ (r : Read). stored_at r n (ws ++ drop (length ws) out)) (e ∙ s)
 
 -- n answers were stored, of which out₀ has become out, and the reader stands at p

@@ -29,15 +29,15 @@ not-refused a r p e = let z : ◌≡◌ {A = ℕ} 0 1 = cc in absurd (omega arit
 -- ---- the words, and the list's end
 
 module _ (list : List ℕ) (m : Numbers) where
-  pub fault-ends : (r : Refusal) (p : ℕ) → row_of m ≡ row.Fault r p → refused r p ≡ ended_at list m
-  fault-ends r p e = sym (ap (ended_at list) (told-fault m r p e))
+  pub fault_ends : (r : Refusal) (p : ℕ) → row_of m ≡ row.Fault r p → refused r p ≡ ended_at list m
+  fault_ends r p e = sym (ap (ended_at list) (told-fault m r p e))
 
   module _ (p : ℕ) (e : row_of m ≡ row.Next p) where
-    pub extra-ends : p ≢ length list → refused ExtraBytes p ≡ ended_at list m
-    extra-ends h = sym (ap (ended_at list) (told-all m p e) ∙ simp (ne_eqb p (length list) h))
+    pub extra_ends : p ≢ length list → refused ExtraBytes p ≡ ended_at list m
+    extra_ends h = sym (ap (ended_at list) (told-all m p e) ∙ simp (ne_eqb p (length list) h))
 
-    pub found-ends : p ≡ length list → (ws : List ℕ) → ws ≡ values_of m → found ws ≡ ended_at list m
-    found-ends h ws w = ap found w ∙ sym (ap (ended_at list) (told-all m p e) ∙ simp (eq-eqb p (length list) h))
+    pub found_ends : p ≡ length list → (ws : List ℕ) → ws ≡ values_of m → found ws ≡ ended_at list m
+    found_ends h ws w = ap found w ∙ sym (ap (ended_at list) (told-all m p e) ∙ simp (eq-eqb p (length list) h))
 
 -- a row that was read whole fills the room that was lent for it, and ends within the list
 pub whole_row : (list : List ℕ) (at p : ℕ) (room out : List ℕ) → row_of (numbers_at list at (length room)) ≡ row.Next p
@@ -76,8 +76,8 @@ module _ (list : List ℕ) (report at z : ℕ) where
       unfolding words_from
       no_room k = stopped list report at z BadLength 0 (λ za. simp (e, le-leb n most_words h, lt-leb (4 * n) report k))
 
-      pub count-read : 4 * n ≤ report → at + z ≤ length list → CountRead list report at z (front.Words at p n)
-      count-read k l =
+      pub count_read : 4 * n ≤ report → at + z ≤ length list → CountRead list report at z (front.Words at p n)
+      count_read k l =
           record {
             says = λ s za. ap (asking s (take z (drop at list))) (words_counted list (record { z = z; za = za; report = report }) (at + z) n p e h k);
             fits = (l, h, k);
@@ -88,10 +88,10 @@ module _ (list : List ℕ) (report at z : ℕ) where
 pub z_right : (s : Settings) (lent : Lent) → right_lengths s lent.z lent.za ≡ true → z_length s ≡ lent.z
 z_right s lent e = sym (lengths_exact s lent.z lent.za e).0
 
-pub z-read : (list : List ℕ) (lent : Lent) (s : Settings) (at : ℕ) → valid_settings s ≡ true → right_lengths s lent.z lent.za ≡ true
+pub z_read : (list : List ℕ) (lent : Lent) (s : Settings) (at : ℕ) → valid_settings s ≡ true → right_lengths s lent.z lent.za ≡ true
     → at + lent.z ≤ length list → asking s (take lent.z (drop at list)) (words_from list lent (at + lent.z)) ≡ settled_from list lent s at
 unfolding settled_from z_from
-z-read list lent s at v l h = sym (rw (v, l, z_right s lent l, le-leb (at + lent.z) (length list) h))
+z_read list lent s at v l h = sym (rw (v, l, z_right s lent l, le-leb (at + lent.z) (length list) h))
 
 as_settled : (s : Settings) (lent : Lent) (r : Front) → valid_settings s ≡ true → right_lengths s lent.z lent.za ≡ true → Settled r s lent
 as_settled s lent (front.Words at from n) v l = (v, l)
@@ -113,7 +113,7 @@ module _ (list : List ℕ) (lent : Lent) (s : Settings) (at : ℕ) where
       cut_short h = record { says = sym (rw (v, l, z_right s lent l, lt-leb (at + lent.z) (length list) h)); fits = tt; settled = tt }
 
       pub gone_on : at + lent.z ≤ length list → (r : Front) → CountRead list lent.report at lent.z r → RestRead list lent s at r
-      gone_on h r d = record { says = d.says s lent.za ∙ z-read list lent s at v l h; fits = d.fits; settled = as_settled s lent r v l }
+      gone_on h r d = record { says = d.says s lent.za ∙ z_read list lent s at v l h; fits = d.fits; settled = as_settled s lent r v l }
 
 -- ---- the seven numbers, and what follows them
 
@@ -125,10 +125,10 @@ module _ (list : List ℕ) (lent : Lent) (head head' : List ℕ) (l : length hea
   unfolding plan_of
   no-head r p e = record { says = sym (ap (headed list lent) (sym seven ∙ told-fault _ r p e)); fits = tt; settled = tt }
 
-  pub headed-by : (p : ℕ) (s : Settings) (r : Front) → row_of (numbers_at list 0 (length head)) ≡ row.Next p → s ≡ settings_of head'
+  pub headed_by : (p : ℕ) (s : Settings) (r : Front) → row_of (numbers_at list 0 (length head)) ≡ row.Next p → s ≡ settings_of head'
       → RestRead list lent s p r → FrontRead list lent head' r
   unfolding plan_of
-  headed-by p s r e q d =
+  headed_by p s r e q d =
       let is : numbers_at list 0 7 ≡ all head' p = sym seven ∙ told-all _ p e ∙ ap (λ (x : List ℕ). all x p) (sym (whole_row list 0 p head head' e f)) in
       record {
         says =

@@ -57,9 +57,9 @@ pub record WordRun (o : Outcome) (r : Reported) (z' za' : List ℕ) : Type 0 whe
   pub z_is : o.z ≡ z'
   pub za_is : o.za ≡ za'
 
-pub word-run : (s : Settings) (w : ℕ) (z za : List ℕ) (e : Executed) (z' za' : List ℕ) (r : Reported)
+pub word_run : (s : Settings) (w : ℕ) (z za : List ℕ) (e : Executed) (z' za' : List ℕ) (r : Reported)
     → executed_says e z' za' ≡ execute_paper s w z za → four_of r ≡ report_of (executed_says e [] []) → WordRun (execute_paper s w z za) r z' za'
-word-run s w z za e z' za' r p q =
+word_run s w z za e z' za' r p q =
     record {
       four = q ∙ says_report e z' za' ∙ ap report_of p;
       z_is = sym (ap (λ (o : Outcome). o.z) p) ∙ says_z e z' za';
@@ -116,23 +116,23 @@ module _ (s : Settings) (ws : List ℕ) (i : ℕ) (h : i < length ws) (z za z' z
 
   module _ (z₀ za₀ report₀ report report' : List ℕ) (t t' : Tally) (g : Running s ws z₀ za₀ report₀ z za report t i)
       (room : 4 * i + 4 ≤ length report) (e : report' ≡ with_four i (four_of r) report) (k : t' ≡ plus t r.rises r.falls r.written) where
-    reports-next : fours (run_of (execute_paper s) ws z₀ za₀).reports
+    reports_next : fours (run_of (execute_paper s) ws z₀ za₀).reports
         ≡ take (4 * (i + 1)) report' ++ fours (run_of (execute_paper s) (drop (i + 1) ws) z' za').reports
     unfolding fours
-    reports-next =
+    reports_next =
         g.reports_left ∙ ap (λ (q : List Report). take (4 * i) report ++ fours q) reports
         ∙ sym (append_assoc (take (4 * i) report) (four (four_of r)) (fours (run_of (execute_paper s) (drop (i + 1) ws) z' za').reports))
         ∙ ap (λ (q : List ℕ). q ++ fours (run_of (execute_paper s) (drop (i + 1) ws) z' za').reports)
         (sym (take_with i (four_of r) report room) ∙ ap (take (4 * (i + 1))) (sym e))
 
-    rest-next : drop (4 * (i + 1)) report' ≡ drop (4 * (i + 1)) report₀
-    rest-next =
+    rest_next : drop (4 * (i + 1)) report' ≡ drop (4 * (i + 1)) report₀
+    rest_next =
         let n : 4 * i + 4 ≡ 4 * (i + 1) = omega arith in
         ap (drop (4 * (i + 1))) e ∙ drop_with i (four_of r) report room ∙ drop_more 4 (4 * i) report report₀ g.rest_as_was ∙ ap (λ (m : ℕ). drop m report₀) n
 
-    tally-next : tallied no_tally (run_of (execute_paper s) ws z₀ za₀).reports ≡ tallied t' (run_of (execute_paper s) (drop (i + 1) ws) z' za').reports
+    tally_next : tallied no_tally (run_of (execute_paper s) ws z₀ za₀).reports ≡ tallied t' (run_of (execute_paper s) (drop (i + 1) ws) z' za').reports
     unfolding tallied
-    tally-next =
+    tally_next =
         g.tally_left ∙ ap (tallied t) reports
         ∙ ap (λ (u : Tally). tallied u (run_of (execute_paper s) (drop (i + 1) ws) z' za').reports) (sym k)
 
@@ -141,9 +141,9 @@ module _ (s : Settings) (ws : List ℕ) (i : ℕ) (h : i < length ws) (z za z' z
         record {
           z_left = g.z_left ∙ ap (λ (x : Run). x.z) left;
           za_left = g.za_left ∙ ap (λ (x : Run). x.za) left;
-          reports_left = reports-next;
-          rest_as_was = rest-next;
-          tally_left = tally-next;
+          reports_left = reports_next;
+          rest_as_was = rest_next;
+          tally_left = tally_next;
           small = subst⁻¹ (Within (i + 1)) k (counted_within s (get_or ws i 0) z za z' za' r i t d g.small);
         }
 
@@ -172,23 +172,23 @@ module _ (s : Settings) (list : List ℕ) (at from : ℕ) (room z za report : Li
   abbrev asked : Found Asked
   asked = goes_on s list at (length z) from (length room)
 
-  pub not-run : (r : Refusal) (p : ℕ) → refused r p ≡ ended_at list (numbers_at list from (length room))
+  pub not_run : (r : Refusal) (p : ℕ) → refused r p ≡ ended_at list (numbers_at list from (length room))
       → run_says (answer.Refused r p) z za report ≡ carried_out asked z za report
-  not-run r p e = ap (λ (f : Found (List ℕ)). carried_out (asking s (take (length z) (drop at list)) f) z za report) e
+  not_run r p e = ap (λ (f : Found (List ℕ)). carried_out (asking s (take (length z) (drop at list)) f) z za report) e
 
-  pub is-run : (ws z₀ za₀ : List ℕ) (t : Tally) (z' za' report' : List ℕ) → found ws ≡ ended_at list (numbers_at list from (length room))
+  pub is_run : (ws z₀ za₀ : List ℕ) (t : Tally) (z' za' report' : List ℕ) → found ws ≡ ended_at list (numbers_at list from (length room))
       → z₀ ≡ take (length z) (drop at list) → za₀ ≡ replicate (length za) 0
       → Performed (run_of (execute_paper s) ws z₀ za₀) (length ws) report t z' za' report' → run_says (answer.Ran (length ws) t) z' za' report' ≡ carried_out asked z za report
-  is-run ws z₀ za₀ t z' za' report' e b a d =
+  is_run ws z₀ za₀ t z' za' report' e b a d =
       rw (d.z_is, d.za_is, d.report_is, d.tally_is, a, b)
       (ap (λ (f : Found (List ℕ)). carried_out (asking s (take (length z) (drop at list)) f) z za report) e)
 
 -- ---- the whole list
 
 module _ (list z za report : List ℕ) where
-  pub refused-run : (r : Refusal) (p : ℕ) → refused r p ≡ plan_of list (lengths_of z za report) → RunPromise list z za report (answer.Refused r p) z za report
+  pub refused_run : (r : Refusal) (p : ℕ) → refused r p ≡ plan_of list (lengths_of z za report) → RunPromise list z za report (answer.Refused r p) z za report
   unfolding run_paper
-  refused-run r p e = ap (λ (f : Found Asked). carried_out f z za report) e
+  refused_run r p e = ap (λ (f : Found Asked). carried_out f z za report) e
 
   pub run_on : (f : Found Asked) (a : RunAnswer) (z' za' report' : List ℕ) → f ≡ plan_of list (lengths_of z za report)
       → run_says a z' za' report' ≡ carried_out f z za report → RunPromise list z za report a z' za' report'

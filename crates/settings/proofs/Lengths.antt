@@ -11,22 +11,22 @@ use Rattle.settings.specs.Valid.{valid_length, valid_features, valid_modes, vali
 use Rattle.settings.specs.declared.Settings.{Settings}
 
 -- what valid settings say of each part
-pub valid-parts : (s : Settings) → valid_settings s ≡ true
+pub valid_parts : (s : Settings) → valid_settings s ≡ true
     → (valid_length s.vl ≡ true) × (valid_features s.features.0 ≡ true) × (valid_modes s.features.0 s.modes.0 ≡ true)
 unfolding valid_settings
-valid-parts s = all_three (valid_length s.vl) (valid_features s.features.0) (valid_modes s.features.0 s.modes.0)
+valid_parts s = all_three (valid_length s.vl) (valid_features s.features.0) (valid_modes s.features.0 s.modes.0)
 
 -- what holds of the three lengths holds of every valid one
 by_length : (vl : ℕ) → valid_length vl ≡ true → (P : ℕ → Type 0) → P 128 → P 256 → P 512 → P vl
 by_length vl = by_three vl 128 256 512
 
 -- 512 bits are the most
-pub length-at_most : (vl : ℕ) → valid_length vl ≡ true → vl / 8 ≤ 64
-length-at_most vl l = by_length vl l (λ n. n / 8 ≤ 64) (lit≤ tt) (lit≤ tt) (lit≤ tt)
+pub length_at_most : (vl : ℕ) → valid_length vl ≡ true → vl / 8 ≤ 64
+length_at_most vl l = by_length vl l (λ n. n / 8 ≤ 64) (lit≤ tt) (lit≤ tt) (lit≤ tt)
 
 module _ (s : Settings) (v : valid_settings s ≡ true) where
   by_vl : (P : ℕ → Type 0) → P 128 → P 256 → P 512 → P s.vl
-  by_vl = by_length s.vl (valid-parts s v).0
+  by_vl = by_length s.vl (valid_parts s v).0
 
   eighth : VectorLength (s.vl / 8)
   eighth =
@@ -35,22 +35,22 @@ module _ (s : Settings) (v : valid_settings s ≡ true) where
       (record { whole = refl; least = lit≤ tt; most = lit≤ tt })
       (record { whole = refl; least = lit≤ tt; most = lit≤ tt })
 
-  pub vector-length : VectorLength (vector_bytes s)
+  pub vector_length : VectorLength (vector_bytes s)
   unfolding vector_bytes
-  vector-length = eighth
+  vector_length = eighth
 
-  pub array-length : VectorLength (array_bytes s)
+  pub array_length : VectorLength (array_bytes s)
   unfolding array_bytes
-  array-length = eighth
+  array_length = eighth
 
-  pub vector-at_most : vector_bytes s ≤ 64
+  pub vector_at_most : vector_bytes s ≤ 64
   unfolding vector_bytes
-  vector-at_most = length-at_most s.vl (valid-parts s v).0
+  vector_at_most = length_at_most s.vl (valid_parts s v).0
 
   -- the bytes are VL
-  pub vector-bits : 8 * vector_bytes s ≡ s.vl
+  pub vector_bits : 8 * vector_bytes s ≡ s.vl
   unfolding vector_bytes
-  vector-bits = by_vl (λ vl. 8 * (vl / 8) ≡ vl) refl refl refl
+  vector_bits = by_vl (λ vl. 8 * (vl / 8) ≡ vl) refl refl refl
 
 -- a vector of ZA is as long as a Z register
 pub same_length : (s : Settings) → array_bytes s ≡ vector_bytes s
@@ -58,7 +58,7 @@ unfolding vector_bytes array_bytes
 same_length s = refl
 
 -- ZA has at most 64 times 64 bytes
-pub array-at_most : (s : Settings) → valid_settings s ≡ true → (x : ℕ) → x ≡ array_bytes s → x * x ≤ 4096
-array-at_most s v x e =
-    let b : x ≤ 64 = omega (arith, e, same_length s, vector-at_most s v) in
+pub array_at_most : (s : Settings) → valid_settings s ≡ true → (x : ℕ) → x ≡ array_bytes s → x * x ≤ 4096
+array_at_most s v x e =
+    let b : x ≤ 64 = omega (arith, e, same_length s, vector_at_most s v) in
     mul-le-mul b b

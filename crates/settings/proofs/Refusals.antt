@@ -24,48 +24,48 @@ numbered n =
     (cond (eqb n 10) ExtraBytes
     (cond (eqb n 11) NotText ShortRoom))))))))))
 
-numbered-back : (r : Refusal) → numbered (refusal_number r) ≡ r
+numbered_back : (r : Refusal) → numbered (refusal_number r) ≡ r
 unfolding numbered
-numbered-back BadSettings = refl
-numbered-back BadLength = refl
-numbered-back UnknownWord = refl
-numbered-back WrongMode = refl
-numbered-back NoSuchWord = refl
-numbered-back NoPartner = refl
-numbered-back ListEnds = refl
-numbered-back BadNumber = refl
-numbered-back TooManyWords = refl
-numbered-back ExtraBytes = refl
-numbered-back NotText = refl
-numbered-back ShortRoom = refl
+numbered_back BadSettings = refl
+numbered_back BadLength = refl
+numbered_back UnknownWord = refl
+numbered_back WrongMode = refl
+numbered_back NoSuchWord = refl
+numbered_back NoPartner = refl
+numbered_back ListEnds = refl
+numbered_back BadNumber = refl
+numbered_back TooManyWords = refl
+numbered_back ExtraBytes = refl
+numbered_back NotText = refl
+numbered_back ShortRoom = refl
 
 pub refusal_known : (r q : Refusal) → refusal_number r ≡ refusal_number q → r ≡ q
-refusal_known r q e = sym (numbered-back r) ∙ ap numbered e ∙ numbered-back q
+refusal_known r q e = sym (numbered_back r) ∙ ap numbered e ∙ numbered_back q
 
-refusal-not_0 : (r : Refusal) → 0 < refusal_number r
-refusal-not_0 BadSettings = omega arith
-refusal-not_0 BadLength = omega arith
-refusal-not_0 UnknownWord = omega arith
-refusal-not_0 WrongMode = omega arith
-refusal-not_0 NoSuchWord = omega arith
-refusal-not_0 NoPartner = omega arith
-refusal-not_0 ListEnds = omega arith
-refusal-not_0 BadNumber = omega arith
-refusal-not_0 TooManyWords = omega arith
-refusal-not_0 ExtraBytes = omega arith
-refusal-not_0 NotText = omega arith
-refusal-not_0 ShortRoom = omega arith
+refusal_not_0 : (r : Refusal) → 0 < refusal_number r
+refusal_not_0 BadSettings = omega arith
+refusal_not_0 BadLength = omega arith
+refusal_not_0 UnknownWord = omega arith
+refusal_not_0 WrongMode = omega arith
+refusal_not_0 NoSuchWord = omega arith
+refusal_not_0 NoPartner = omega arith
+refusal_not_0 ListEnds = omega arith
+refusal_not_0 BadNumber = omega arith
+refusal_not_0 TooManyWords = omega arith
+refusal_not_0 ExtraBytes = omega arith
+refusal_not_0 NotText = omega arith
+refusal_not_0 ShortRoom = omega arith
 
 pub not_0 : (r : Refusal) → refusal_number r ≢ 0
-not_0 r e = omega (arith, refusal-not_0 r)
+not_0 r e = omega (arith, refusal_not_0 r)
 
 -- as a test
-pub tests-not_0 : (r : Refusal) → eqb (refusal_number r) 0 ≡ false
-tests-not_0 r = ne_eqb (refusal_number r) 0 (not_0 r)
+pub tests_not_0 : (r : Refusal) → eqb (refusal_number r) 0 ≡ false
+tests_not_0 r = ne_eqb (refusal_number r) 0 (not_0 r)
 
 -- every answer says a number and values: a refusal does not say the number 0
-pub refused-not_0 : {A : Type 0} (r : Refusal) (x y : A) → ◌≡◌ {A = ℕ × A} (refusal_number r, x) (0, y) → ⊥
-refused-not_0 {A} r x y e = let n : refusal_number r ≡ 0 = ap (λ (p : ℕ × A). p.0) e in omega (arith, refusal-not_0 r)
+pub refused_not_0 : {A : Type 0} (r : Refusal) (x y : A) → ◌≡◌ {A = ℕ × A} (refusal_number r, x) (0, y) → ⊥
+refused_not_0 {A} r x y e = let n : refusal_number r ≡ 0 = ap (λ (p : ℕ × A). p.0) e in omega (arith, refusal_not_0 r)
 
 -- and two refusals that say the same are the same
 pub refused_known : {A : Type 0} (r q : Refusal) (x y : A) → ◌≡◌ {A = ℕ × A} (refusal_number r, x) (refusal_number q, y) → r ≡ q

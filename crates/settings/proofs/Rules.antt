@@ -13,20 +13,20 @@ use Rattle.settings.specs.Valid.{valid_features, valid_modes}
 -- ---- with SME
 
 -- two rules that each ask for SME
-with-sme : (t x y s : Bool) → s ≡ true → t ≡ (t && (not x || s) && (not y || s))
-with-sme true true true true h = refl
-with-sme true true true false h = sym h
-with-sme true true false true h = refl
-with-sme true true false false h = sym h
-with-sme true false true s h = sym h
-with-sme true false false s h = refl
-with-sme false x y s h = refl
+with_sme : (t x y s : Bool) → s ≡ true → t ≡ (t && (not x || s) && (not y || s))
+with_sme true true true true h = refl
+with_sme true true true false h = sym h
+with_sme true true false true h = refl
+with_sme true true false false h = sym h
+with_sme true false true s h = sym h
+with_sme true false false s h = refl
+with_sme false x y s h = refl
 
 pub features_with : (f : ℕ) → has_features f sme ≡ true → ltb f 32 ≡ valid_features f
-features_with f h = with-sme (ltb f 32) (has_features f sme2) (has_features f i16i64) (has_features f sme) h
+features_with f h = with_sme (ltb f 32) (has_features f sme2) (has_features f i16i64) (has_features f sme) h
 
 pub modes_with : (f m : ℕ) → has_features f sme ≡ true → ltb m 4 ≡ valid_modes f m
-modes_with f m h = with-sme (ltb m 4) (has_modes m sm) (has_modes m za) (has_features f sme) h
+modes_with f m h = with_sme (ltb m 4) (has_modes m sm) (has_modes m za) (has_features f sme) h
 
 -- ---- without SME
 
@@ -45,24 +45,24 @@ lacks : (s : Bool) (x : ℕ) → leb 1 x ≡ s → s ≡ false → x ≡ 0
 lacks s x e h = let l = leb-false 1 x (e ∙ h) in omega arith
 
 -- the bit that each feature's test reads: a bit that is not named is not asked for
-sme-at : (f : ℕ) → leb 1 (f / 4 % 2) ≡ has_features f sme
-sme-at f = simp (leb-zero, and-true)
+sme_at : (f : ℕ) → leb 1 (f / 4 % 2) ≡ has_features f sme
+sme_at f = simp (leb-zero, and-true)
 
-sme2-at : (f : ℕ) → leb 1 (f / 8 % 2) ≡ has_features f sme2
-sme2-at f = simp (leb-zero, and-true)
+sme2_at : (f : ℕ) → leb 1 (f / 8 % 2) ≡ has_features f sme2
+sme2_at f = simp (leb-zero, and-true)
 
-i16i64-at : (f : ℕ) → leb 1 (f / 16 % 2) ≡ has_features f i16i64
-i16i64-at f = simp leb-zero
+i16i64_at : (f : ℕ) → leb 1 (f / 16 % 2) ≡ has_features f i16i64
+i16i64_at f = simp leb-zero
 
 below_4 : (f : ℕ) → has_features f sme ≡ false → valid_features f ≡ true → f < 4
 below_4 f h v =
     let rules = all_three _ _ _ v in
     let below-32 = ltb-true f 32 rules.0 in
-    let no-i16i64 : f / 16 % 2 ≡ 0 = lacks _ _ (i16i64-at f) (without _ _ h rules.2) in
+    let no-i16i64 : f / 16 % 2 ≡ 0 = lacks _ _ (i16i64_at f) (without _ _ h rules.2) in
     let below-16 : f < 16 = omega arith in
-    let no-sme2 : f / 8 % 2 ≡ 0 = lacks _ _ (sme2-at f) (without _ _ h rules.1) in
+    let no-sme2 : f / 8 % 2 ≡ 0 = lacks _ _ (sme2_at f) (without _ _ h rules.1) in
     let below-8 : f < 8 = omega arith in
-    let no-sme : f / 4 % 2 ≡ 0 = lacks _ _ (sme-at f) h in
+    let no-sme : f / 4 % 2 ≡ 0 = lacks _ _ (sme_at f) h in
     omega arith
 
 four_valid : (f : ℕ) → f < 4 → valid_features f ≡ true

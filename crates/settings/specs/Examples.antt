@@ -9,8 +9,8 @@ passing test zero = []
 passing test (suc n) = passing test n ++ cond (test n) (n ∷ []) []
 
 -- "AdvSIMD 1, SVE2 2, SME 4, SME2 8, I16I64 16", "SM 1, ZA 2"
-numbers-named : named_numbers ≡ 1 ∷ 2 ∷ 4 ∷ 8 ∷ 16 ∷ 1 ∷ 2 ∷ []
-numbers-named = refl
+numbers_named : named_numbers ≡ 1 ∷ 2 ∷ 4 ∷ 8 ∷ 16 ∷ 1 ∷ 2 ∷ []
+numbers_named = refl
 
 -- SME and I16I64 contain the sums of these two and no other number, also none above the sum of all five
 features_contained : passing (has_features 20) 128 ≡ 0 ∷ 4 ∷ 16 ∷ 20 ∷ []

@@ -12,7 +12,7 @@ use Rattle.pieces.specs.Pieces.{Wrote}
 use Rattle.pieces.proofs.Pieces.{said}
 use Rattle.settings.specs.Refused.{refusal_number}
 use Rattle.settings.specs.declared.Refusal.{Refusal}
-use Rattle.settings.proofs.Refusals.{tests-not_0, refused-not_0}
+use Rattle.settings.proofs.Refusals.{tests_not_0, refused_not_0}
 use Rattle.settings.specs.Valid.{valid_settings}
 use Rattle.words.specs.Says.{Described, As, Nothing, describe}
 use Rattle.words.specs.Decode.{enables_family, enables, no_fields, enabled_only, decode_enabled, decode_paper}
@@ -35,7 +35,7 @@ not-refused due = refl
 
 pub refused : (r : Refusal) (due : List ℕ) → refusal_text (refusal_number r) ≡ unless_refused (refusal_number r) due
 unfolding unless_refused
-refused r due = cond_no _ _ _ _ (tests-not_0 r) refl
+refused r due = cond_no _ _ _ _ (tests_not_0 r) refl
 
 -- ---- what print has written
 
@@ -59,9 +59,9 @@ put_in t n room room' e = by_cond (leb (length t) (length room)) _ _ _ fits shor
     short : leb (length t) (length room) ≡ false → ◌≡◌ {A = End} ((12, 0), room) ((0, n), room') → Wrote t 0 room room' n
     short b p = absurd (omega (arith, ap (λ (x : End). x.0.0) p))
 
-wrote-text : (d : ℕ × Fields) (n : ℕ) (room room' : List ℕ) → ◌≡◌ {A = End} (print_after d room) ((0, n), room') → Wrote (word_text d) 0 room room' n
+wrote_text : (d : ℕ × Fields) (n : ℕ) (room room' : List ℕ) → ◌≡◌ {A = End} (print_after d room) ((0, n), room') → Wrote (word_text d) 0 room room' n
 unfolding unless_refused
-wrote-text d n room room' e =
+wrote_text d n room room' e =
     by_cond (eqb d.0 0) _ _ _
     (λ (b : eqb d.0 0 ≡ true) (p : ◌≡◌ {A = End} (put_into (spell false d.1) room) ((0, n), room')).
     said (cond_yes _ _ _ _ b refl) (put_in (spell false d.1) n room room' p))
@@ -78,33 +78,33 @@ number_0 d n room room' e =
 
 pub print_wrote : (w n : ℕ) (room room' : List ℕ) → PrintPromise all_on w room (Text n) room' → Wrote (word_text (decode_paper all_on w)) 0 room room' n
 unfolding print_paper
-print_wrote w n room room' e = wrote-text (decode_paper all_on w) n room room' (sym e)
+print_wrote w n room room' e = wrote_text (decode_paper all_on w) n room room' (sym e)
 
 -- ---- what print has refused: not for want of room
 
-none-put : (t : List ℕ) (r : Refusal) (room room' : List ℕ) → length t ≤ length room → ◌≡◌ {A = End} (put_into t room) ((refusal_number r, 0), room') → ⊥
-none-put t r room room' h e =
+none_put : (t : List ℕ) (r : Refusal) (room room' : List ℕ) → length t ≤ length room → ◌≡◌ {A = End} (put_into t room) ((refusal_number r, 0), room') → ⊥
+none_put t r room room' h e =
     by_cond (leb (length t) (length room)) _ _ _
     (λ (b : leb (length t) (length room) ≡ true) (p : ◌≡◌ {A = End} ((0, length t), t ++ drop (length t) room) ((refusal_number r, 0), room')).
-    refused-not_0 r 0 (length t) (sym (ap (λ (x : End). x.0) p)))
+    refused_not_0 r 0 (length t) (sym (ap (λ (x : End). x.0) p)))
     (λ (b : leb (length t) (length room) ≡ false) (p : ◌≡◌ {A = End} ((12, 0), room) ((refusal_number r, 0), room')).
     omega (arith, leb-false (length t) (length room) b))
     e
 
-refused-text : (d : ℕ × Fields) (r : Refusal) (room room' : List ℕ) → (d.0 ≡ 0 → length (spell false d.1) ≤ length room)
+refused_text : (d : ℕ × Fields) (r : Refusal) (room room' : List ℕ) → (d.0 ≡ 0 → length (spell false d.1) ≤ length room)
     → ◌≡◌ {A = End} (print_after d room) ((refusal_number r, 0), room') → (room ≡ room') × (refusal_text (refusal_number r) ≡ word_text d) × (d.0 ≡ refusal_number r)
 unfolding unless_refused
-refused-text d r room room' h e =
+refused_text d r room room' h e =
     by_cond (eqb d.0 0) _ _ _
     (λ (b : eqb d.0 0 ≡ true) (p : ◌≡◌ {A = End} (put_into (spell false d.1) room) ((refusal_number r, 0), room')).
-    absurd (none-put (spell false d.1) r room room' (h (eqb-true _ _ b)) p))
+    absurd (none_put (spell false d.1) r room room' (h (eqb-true _ _ b)) p))
     (λ (b : eqb d.0 0 ≡ false) (p : ◌≡◌ {A = End} ((d.0, 0), room) ((refusal_number r, 0), room')).
     (ap (λ (x : End). x.1) p, cond_no _ _ _ _ b (ap refusal_text (sym (ap (λ (x : End). x.0.0) p))), ap (λ (x : End). x.0.0) p))
     e
 
 -- the text of a word is no longer than the longest
-text-fits : (w : ℕ) → w < 2 ^ 32 → (decode_paper all_on w).0 ≡ 0 → length (spell false (decode_paper all_on w).1) ≤ longest_text
-text-fits w lt e =
+text_fits : (w : ℕ) → w < 2 ^ 32 → (decode_paper all_on w).0 ≡ 0 → length (spell false (decode_paper all_on w).1) ≤ longest_text
+text_fits w lt e =
     let f = (decode_paper all_on w).1 in
     let d = (decodes_exactly all_on w f).0 (ap (λ (n : ℕ). (n, f)) e) in
     no_longer (spell false f) w (record { fits = lt; fields = f; says = d.says; short = false; spelled = refl })
@@ -122,13 +122,13 @@ on : (f : Fields) → enables 31 f ≡ true
 unfolding enables
 on f = family_on f.family f.lane
 
-three-only : (x : Described) → ((enabled_only 31 x).0 ≡ 0 → ⊥) → (enabled_only 31 x).0 ≡ 3
-three-only (As f) h = absurd (h (ap (λ (b : Bool). (cond {A = ℕ × Fields} b (0, f) (3, no_fields)).0) (on f)))
-three-only Nothing h = refl
+three_only : (x : Described) → ((enabled_only 31 x).0 ≡ 0 → ⊥) → (enabled_only 31 x).0 ≡ 3
+three_only (As f) h = absurd (h (ap (λ (b : Bool). (cond {A = ℕ × Fields} b (0, f) (3, no_fields)).0) (on f)))
+three_only Nothing h = refl
 
 word_three : (w : ℕ) → ((decode_paper all_on w).0 ≡ 0 → ⊥) → (decode_paper all_on w).0 ≡ 3
 unfolding decode_paper decode_enabled valid_settings
-word_three w h = three-only (describe w) h
+word_three w h = three_only (describe w) h
 
 pub valid : valid_settings all_on ≡ true
 unfolding valid_settings
@@ -137,19 +137,19 @@ valid = refl
 pub reads_word : (line : List ℕ) (w : ℕ) → Spells line w → Reads all_on line (0, w)
 reads_word line w p = a_word valid w p (on p.fields)
 
-pub print-refused : (w : ℕ) → w < 2 ^ 32 → (r : Refusal) (room room' : List ℕ) → longest_text ≤ length room
+pub print_refused : (w : ℕ) → w < 2 ^ 32 → (r : Refusal) (room room' : List ℕ) → longest_text ≤ length room
     → PrintPromise all_on w room (Refused r) room' → (room ≡ room') × (refusal_text 3 ≡ word_text (decode_paper all_on w))
 unfolding print_paper
-print-refused w lt r room room' h e =
+print_refused w lt r room room' h e =
     let f =
-    refused-text (decode_paper all_on w) r room room' (λ (z : (decode_paper all_on w).0 ≡ 0). omega (arith, text-fits w lt z)) (sym e) in
-    let three = word_three w (λ (z : (decode_paper all_on w).0 ≡ 0). never_both _ (eq-eqb _ 0 (sym f.2 ∙ z)) (tests-not_0 r)) in
+    refused_text (decode_paper all_on w) r room room' (λ (z : (decode_paper all_on w).0 ≡ 0). omega (arith, text_fits w lt z)) (sym e) in
+    let three = word_three w (λ (z : (decode_paper all_on w).0 ≡ 0). never_both _ (eq-eqb _ 0 (sym f.2 ∙ z)) (tests_not_0 r)) in
     (f.0, ap refusal_text (sym three ∙ f.2) ∙ f.1)
 
 -- and what it has written is short
-pub print-short : (w : ℕ) → w < 2 ^ 32 → (n : ℕ) (room room' : List ℕ) → PrintPromise all_on w room (Text n) room' → n ≤ longest_text
+pub print_short : (w : ℕ) → w < 2 ^ 32 → (n : ℕ) (room room' : List ℕ) → PrintPromise all_on w room (Text n) room' → n ≤ longest_text
 unfolding print_paper unless_refused
-print-short w lt n room room' e =
+print_short w lt n room room' e =
     let z = number_0 (decode_paper all_on w) n room room' (sym e) in
     let same : spell false (decode_paper all_on w).1 ≡ word_text (decode_paper all_on w) = cond_yes _ _ (refusal_text (decode_paper all_on w).0) _ (eq-eqb (decode_paper all_on w).0 0 z) refl in
-    omega (arith, (print_wrote w n room room' e).ends, ap length same, text-fits w lt z)
+    omega (arith, (print_wrote w n room room' e).ends, ap length same, text_fits w lt z)

@@ -19,7 +19,7 @@ use Rattle.spelling.specs.Spell.{byte_of, sign_byte, letter_values, row_for, spe
 use Rattle.spelling.specs.Language.{a_word}
 use Rattle.spelling.proofs.Arms.{below, each_below}
 use Rattle.spelling.proofs.Reading.{row_below}
-use Rattle.spell.specs.Spelled.{all_on, is_hex_digit, digit_of, is_word, word_of, word_text, Answers, to_word, to-text}
+use Rattle.spell.specs.Spelled.{all_on, is_hex_digit, digit_of, is_word, word_of, word_text, Answers, to_word, to_text}
 use Rattle.spell.specs.Theorems.{GivenBack}
 use Rattle.spell.proofs.Answers.{not-refused}
 
@@ -29,21 +29,21 @@ use Rattle.spell.proofs.Answers.{not-refused}
 abbrev Back : ℕ → Type 0
 Back d = (is_hex_digit (glyph_of d) ≡ true) × (digit_of (glyph_of d) ≡ d)
 
-digits-back : Each Back (below 16)
-digits-back =
+digits_back : Each Back (below 16)
+digits_back =
     (refl, refl) then (refl, refl) then (refl, refl) then (refl, refl) then (refl, refl) then (refl, refl) then (refl, refl) then (refl, refl) then (refl, refl) then (refl, refl) then (refl, refl) then (refl, refl) then (refl, refl) then (refl, refl) then (refl, refl) then (refl, refl) then tt
 
-digit-back : (n : ℕ) → Back (n % 16)
-digit-back n = each_below Back 16 digits-back (n % 16) (mod-lt n (omega arith))
+digit_back : (n : ℕ) → Back (n % 16)
+digit_back n = each_below Back 16 digits_back (n % 16) (mod-lt n (omega arith))
 
 all_pass : (b₀ b₁ b₂ b₃ b₄ b₅ b₆ b₇ : Bool) → b₀ ≡ true → b₁ ≡ true → b₂ ≡ true → b₃ ≡ true → b₄ ≡ true → b₅ ≡ true → b₆ ≡ true → b₇ ≡ true → (b₀ && b₁ && b₂ && b₃ && b₄ && b₅ && b₆ && b₇) ≡ true
 all_pass b₀ b₁ b₂ b₃ b₄ b₅ b₆ b₇ e₀ e₁ e₂ e₃ e₄ e₅ e₆ e₇ = rw (e₀, e₁, e₂, e₃, e₄, e₅, e₆, e₇)
 
-hex-word : (w : ℕ) → is_word (hex8 w) ≡ true
+hex_word : (w : ℕ) → is_word (hex8 w) ≡ true
 unfolding is_word hex8 digits
-hex-word w =
+hex_word w =
     all_pass _ _ _ _ _ _ _ _
-    (digit-back (w / 16 / 16 / 16 / 16 / 16 / 16 / 16)).0 (digit-back (w / 16 / 16 / 16 / 16 / 16 / 16)).0 (digit-back (w / 16 / 16 / 16 / 16 / 16)).0 (digit-back (w / 16 / 16 / 16 / 16)).0 (digit-back (w / 16 / 16 / 16)).0 (digit-back (w / 16 / 16)).0 (digit-back (w / 16)).0 (digit-back (w)).0
+    (digit_back (w / 16 / 16 / 16 / 16 / 16 / 16 / 16)).0 (digit_back (w / 16 / 16 / 16 / 16 / 16 / 16)).0 (digit_back (w / 16 / 16 / 16 / 16 / 16)).0 (digit_back (w / 16 / 16 / 16 / 16)).0 (digit_back (w / 16 / 16 / 16)).0 (digit_back (w / 16 / 16)).0 (digit_back (w / 16)).0 (digit_back (w)).0
 
 top : (x n : ℕ) → n < 16 → x ≡ n % 16 → 0 * 16 + x ≡ n
 top x n h e = omega arith
@@ -52,17 +52,17 @@ top x n h e = omega arith
 up : (y x n : ℕ) → y ≡ n / 16 → x ≡ n % 16 → y * 16 + x ≡ n
 up y x n d e = omega arith
 
-number-back : (w x₀ x₁ x₂ x₃ x₄ x₅ x₆ x₇ : ℕ) → w < 2 ^ 32
+number_back : (w x₀ x₁ x₂ x₃ x₄ x₅ x₆ x₇ : ℕ) → w < 2 ^ 32
     → x₀ ≡ w / 16 / 16 / 16 / 16 / 16 / 16 / 16 % 16 → x₁ ≡ w / 16 / 16 / 16 / 16 / 16 / 16 % 16 → x₂ ≡ w / 16 / 16 / 16 / 16 / 16 % 16 → x₃ ≡ w / 16 / 16 / 16 / 16 % 16 → x₄ ≡ w / 16 / 16 / 16 % 16 → x₅ ≡ w / 16 / 16 % 16 → x₆ ≡ w / 16 % 16 → x₇ ≡ w % 16
     → (((((((0 * 16 + x₀) * 16 + x₁) * 16 + x₂) * 16 + x₃) * 16 + x₄) * 16 + x₅) * 16 + x₆) * 16 + x₇ ≡ w
-number-back w x₀ x₁ x₂ x₃ x₄ x₅ x₆ x₇ lt e₀ e₁ e₂ e₃ e₄ e₅ e₆ e₇ =
+number_back w x₀ x₁ x₂ x₃ x₄ x₅ x₆ x₇ lt e₀ e₁ e₂ e₃ e₄ e₅ e₆ e₇ =
     up _ _ (w) (up _ _ (w / 16) (up _ _ (w / 16 / 16) (up _ _ (w / 16 / 16 / 16) (up _ _ (w / 16 / 16 / 16 / 16) (up _ _ (w / 16 / 16 / 16 / 16 / 16) (up _ _ (w / 16 / 16 / 16 / 16 / 16 / 16) (top x₀ (w / 16 / 16 / 16 / 16 / 16 / 16 / 16) (omega arith) e₀) e₁) e₂) e₃) e₄) e₅) e₆) e₇
 
-hex-back : (w : ℕ) → w < 2 ^ 32 → word_of (hex8 w) ≡ w
+hex_back : (w : ℕ) → w < 2 ^ 32 → word_of (hex8 w) ≡ w
 unfolding word_of hex8 digits
-hex-back w lt =
-    number-back w _ _ _ _ _ _ _ _ lt
-    (digit-back (w / 16 / 16 / 16 / 16 / 16 / 16 / 16)).1 (digit-back (w / 16 / 16 / 16 / 16 / 16 / 16)).1 (digit-back (w / 16 / 16 / 16 / 16 / 16)).1 (digit-back (w / 16 / 16 / 16 / 16)).1 (digit-back (w / 16 / 16 / 16)).1 (digit-back (w / 16 / 16)).1 (digit-back (w / 16)).1 (digit-back (w)).1
+hex_back w lt =
+    number_back w _ _ _ _ _ _ _ _ lt
+    (digit_back (w / 16 / 16 / 16 / 16 / 16 / 16 / 16)).1 (digit_back (w / 16 / 16 / 16 / 16 / 16 / 16)).1 (digit_back (w / 16 / 16 / 16 / 16 / 16)).1 (digit_back (w / 16 / 16 / 16 / 16)).1 (digit_back (w / 16 / 16 / 16)).1 (digit_back (w / 16 / 16)).1 (digit_back (w / 16)).1 (digit_back (w)).1
 
 -- ---- a text is no word: its first byte is no digit
 
@@ -85,17 +85,17 @@ no_word : (line : List ℕ) → is_hex_digit (get_or line 0 0) ≡ false → is_
 unfolding is_word
 no_word line e = first_fails (eqb (length line) 8) _ _ _ _ _ _ _ _ e
 
-text_no-word : (short : Bool) (f : Fields) → is_word (spell short f) ≡ false
+text_no_word : (short : Bool) (f : Fields) → is_word (spell short f) ≡ false
 unfolding spell
-text_no-word short f =
+text_no_word short f =
     no_word _ (each_below (λ (k : ℕ). is_hex_digit (get_or (fill (letter_values f) (syntax_at k)) 0 0) ≡ false) 18 (first_no_digit f) (row_for short f) (row_below short f))
 
 pub given_back : GivenBack
 given_back w f lt e =
     let d = (decodes_exactly all_on w f).0 e in
     let says : spell false f ≡ word_text (decode_paper all_on (word_of (hex8 w))) =
-    not-refused (spell false f) ∙ sym (ap word_text e) ∙ sym (ap (λ (v : ℕ). word_text (decode_paper all_on v)) (hex-back w lt)) in (
-      subst (λ (t : List ℕ). Answers (hex8 w) (t ++ text "\n")) (sym says) (to_word (hex-word w)),
+    not-refused (spell false f) ∙ sym (ap word_text e) ∙ sym (ap (λ (v : ℕ). word_text (decode_paper all_on v)) (hex_back w lt)) in (
+      subst (λ (t : List ℕ). Answers (hex8 w) (t ++ text "\n")) (sym says) (to_word (hex_word w)),
       λ (short : Bool). subst (λ (t : List ℕ). Answers (spell short f) (t ++ text "\n")) (sym (not-refused (hex8 w)))
-          (to-text (text_no-word short f) 0 w (a_word d.valid w (record { fits = lt; fields = f; says = d.says; short = short; spelled = refl }) d.enabled)),
+          (to_text (text_no_word short f) 0 w (a_word d.valid w (record { fits = lt; fields = f; says = d.says; short = short; spelled = refl }) d.enabled)),
     )

@@ -13,22 +13,22 @@ use Rattle.spell.specs.Spelled.{is_hex_digit, digit_of, are_digits, hex_number, 
 
 -- ---- the number fits
 
-number-below : (line : List ℕ) (k : ℕ) → hex_number line k < 16 ^ k
-number-below line zero = omega arith
-number-below line (suc k) =
+number_below : (line : List ℕ) (k : ℕ) → hex_number line k < 16 ^ k
+number_below line zero = omega arith
+number_below line (suc k) =
     let c = get_or line k 0 in
     let d : digit_of c < 16 = mod-lt (c % 16 + c / 64 * 9) (omega arith) in
-    rw (pow-suc 16 k) (omega (arith, number-below line k))
+    rw (pow-suc 16 k) (omega (arith, number_below line k))
 
 pub number_small : (line : List ℕ) (k : ℕ) → k < 8 → hex_number line k < 16 ^ 7
 number_small line k h =
     let most : k ≤ 7 = omega arith in
     let lt : 0 < 16 = omega arith in
-    lt_of_lt_of_le (number-below line k) (pow-le-pow_right lt most)
+    lt_of_lt_of_le (number_below line k) (pow-le-pow_right lt most)
 
 word_small : (line : List ℕ) → word_of line < 2 ^ 32
 unfolding word_of
-word_small line = number-below line 8
+word_small line = number_below line 8
 
 -- ---- the turns
 
@@ -49,15 +49,15 @@ pub all_digits : (line : List ℕ) (i word : ℕ) (all : Bool) → length line �
 unfolding word_in word_of
 all_digits line i word all len end e f passed = cond_yes _ _ _ _ (eight line i all len end e ∙ passed) (f ∙ ap (hex_number line) end)
 
-pub not-digits : (line : List ℕ) (i : ℕ) (all : Bool) → length line ≡ 8 → i ≡ 8 → all ≡ are_digits line i → all ≡ false → 2 ^ 32 ≡ word_in line
+pub not_digits : (line : List ℕ) (i : ℕ) (all : Bool) → length line ≡ 8 → i ≡ 8 → all ≡ are_digits line i → all ≡ false → 2 ^ 32 ≡ word_in line
 unfolding word_in
-not-digits line i all len end e failed = cond_no _ (word_of line) _ _ (eight line i all len end e ∙ failed) refl
+not_digits line i all len end e failed = cond_no _ (word_of line) _ _ (eight line i all len end e ∙ failed) refl
 
 -- ---- what the number says of the line
 
-pub says-word : (line : List ℕ) (w : ℕ) → w ≡ word_in line → (w < 2 ^ 32 → (is_word line ≡ true) × (w ≡ word_of line)) × (2 ^ 32 ≤ w → is_word line ≡ false)
+pub says_word : (line : List ℕ) (w : ℕ) → w ≡ word_in line → (w < 2 ^ 32 → (is_word line ≡ true) × (w ≡ word_of line)) × (2 ^ 32 ≤ w → is_word line ≡ false)
 unfolding word_in
-says-word line w e =
+says_word line w e =
     by_cond (is_word line) (word_of line) (2 ^ 32) w
     (λ (b : is_word line ≡ true) (p : word_of line ≡ w). (λ (h : w < 2 ^ 32). (b, sym p), λ (h : 2 ^ 32 ≤ w). absurd (omega (arith, word_small line))))
     (λ (b : is_word line ≡ false) (p : ◌≡◌ {A = ℕ} (2 ^ 32) w). (λ (h : w < 2 ^ 32). absurd (omega arith), λ (h : 2 ^ 32 ≤ w). b))

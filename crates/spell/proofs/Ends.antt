@@ -13,11 +13,11 @@ use Rattle.settings.specs.declared.Refusal.{Refusal}
 use Rattle.words.specs.Decode.{decode_paper}
 use Rattle.spelling.specs.Spell.{longest_text}
 use Rattle.spelling.specs.Print.{PrintPromise}
-use Rattle.spelling.specs.Language.{Spells, not-text}
+use Rattle.spelling.specs.Language.{Spells, not_text}
 use Rattle.spelling.specs.declared.Printed.TheVariants.{Text, Refused}
-use Rattle.spell.specs.Spelled.{all_on, is_word, word_in, unless_refused, word_text, Answers, Answered, IsPrefixLen, to_word, to-text}
-use Rattle.spell.proofs.Answers.{not-refused, valid, reads_word, print_wrote, print-refused, print-short}
-use Rattle.spell.proofs.Digits.{says-word}
+use Rattle.spell.specs.Spelled.{all_on, is_word, word_in, unless_refused, word_text, Answers, Answered, IsPrefixLen, to_word, to_text}
+use Rattle.spell.proofs.Answers.{not-refused, valid, reads_word, print_wrote, print_refused, print_short}
+use Rattle.spell.proofs.Digits.{says_word}
 
 -- ---- the line's end
 
@@ -36,12 +36,12 @@ answered line answer room room' r p w = (record { answer = answer; answers = p; 
 pub word_answered : (line : List ℕ) (w r : ℕ) (room room' : List ℕ) → w ≡ word_in line → w < 2 ^ 32
     → Wrote (word_text (decode_paper all_on w) ++ text "\n") 0 room room' r → Answered line room room' r × IsPrefixLen r room'
 word_answered line w r room room' e lt x =
-    let is = (says-word line w e).0 lt in
+    let is = (says_word line w e).0 lt in
     answered line _ room room' r (to_word is.0) (said (ap (λ (v : ℕ). word_text (decode_paper all_on v) ++ text "\n") is.1) x)
 
 -- behind a text there is room for the line's end
 pub end_inside : (w n : ℕ) (room room' : List ℕ) → w < 2 ^ 32 → longest_text < length room → PrintPromise all_on w room (Text n) room' → n < length room'
-end_inside w n room room' lt long p = omega (arith, print-short w lt n room room' p, (stands (print_wrote w n room room' p)).same_room)
+end_inside w n room room' lt long p = omega (arith, print_short w lt n room room' p, (stands (print_wrote w n room room' p)).same_room)
 
 pub word_said : (w n : ℕ) (room room' : List ℕ) → w < 2 ^ 32 → longest_text < length room → PrintPromise all_on w room (Text n) room'
     → Wrote (word_text (decode_paper all_on w) ++ text "\n") 0 room (set room' n 10) (n + 1)
@@ -52,7 +52,7 @@ pub word-refused : (w : ℕ) → w < 2 ^ 32 → (refusal : Refusal) (r : ℕ) (r
     → Wrote (word_text (decode_paper all_on w) ++ text "\n") 0 room room'' r
 unfolding decimal decimal_up_to
 word-refused w lt refusal r room room' room'' long p x =
-    let f = print-refused w lt refusal room room' long p in
+    let f = print_refused w lt refusal room room' long p in
     said (ap (λ (t : List ℕ). t ++ text "\n") f.1) (subst (λ (l : List ℕ). Wrote (text "refused 3\n") 0 l room'' r) (sym f.0) x)
 
 -- ---- a line that is not
@@ -62,9 +62,9 @@ pub text_said : (line : List ℕ) (w n : ℕ) (room room' : List ℕ) → Spells
 unfolding hex8
 text_said line w n room room' p x h =
     let all = and_then (said (not-refused (hex8 w)) x) (ended room' n h) in
-    ((λ e. (answered line _ room _ _ (to-text e 0 w (reads_word line w p)) all).0), ends_inside all)
+    ((λ e. (answered line _ room _ _ (to_text e 0 w (reads_word line w p)) all).0), ends_inside all)
 
 pub text-refused : (line : List ℕ) (r : ℕ) (room room' : List ℕ) → ((w : ℕ) → Spells line w → ⊥) → Wrote (text "refused 11\n") 0 room room' r
     → (is_word line ≡ false → Answered line room room' r) × IsPrefixLen r room'
 unfolding unless_refused decimal decimal_up_to
-text-refused line r room room' n x = ((λ e. (answered line _ room room' r (to-text e 11 0 (not-text valid n)) x).0), ends_inside x)
+text-refused line r room room' n x = ((λ e. (answered line _ room room' r (to_text e 11 0 (not_text valid n)) x).0), ends_inside x)

@@ -11,18 +11,18 @@ use Rattle.laws.proofs.Tests.{never_both, by_lt}
 use Rattle.pieces.specs.Pieces.{text, hex8}
 use Rattle.pieces.proofs.Pieces.{said, wrote_unique}
 use Rattle.spelling.specs.Spell.{longest_text}
-use Rattle.spelling.specs.Language.{Spells, Reads, not-text}
+use Rattle.spelling.specs.Language.{Spells, Reads, not_text}
 use Rattle.spelling.proofs.Theorems.{reads_unique}
 use Rattle.spelling.proofs.Longest.{no_longer}
-use Rattle.spell.specs.Spelled.{all_on, is_word, unless_refused, Answers, Answered, to_word, to-text}
+use Rattle.spell.specs.Spelled.{all_on, is_word, unless_refused, Answers, Answered, to_word, to_text}
 use Rattle.spell.specs.Theorems.{OneAnswer, EnoughKept}
 use Rattle.spell.proofs.Answers.{valid}
 
 pub answer_unique : OneAnswer
 answer_unique line a b (to_word p) (to_word q) = refl
-answer_unique line a b (to_word p) (to-text q _ _ _) = absurd (never_both _ p q)
-answer_unique line a b (to-text p _ _ _) (to_word q) = absurd (never_both _ q p)
-answer_unique line a b (to-text _ n w r) (to-text _ m v q) =
+answer_unique line a b (to_word p) (to_text q _ _ _) = absurd (never_both _ p q)
+answer_unique line a b (to_text p _ _ _) (to_word q) = absurd (never_both _ q p)
+answer_unique line a b (to_text _ n w r) (to_text _ m v q) =
     ap (λ (x : ℕ × ℕ). unless_refused x.0 (hex8 x.1) ++ text "\n") (reads_unique all_on line (n, w) (m, v) r q)
 
 -- so the promise determines the length and the room at the end
@@ -38,13 +38,13 @@ unfolding is_word
 no_word line h = rw (ne_eqb (length line) 8 (λ (e : length line ≡ 8). omega arith))
 
 no_text : (line : List ℕ) → longest_text < length line → Reads all_on line (11, 0)
-no_text line h = not-text valid (λ (w : ℕ) (p : Spells line w). omega (arith, no_longer line w p))
+no_text line h = not_text valid (λ (w : ℕ) (p : Spells line w). omega (arith, no_longer line w p))
 
 long_answer : (line : List ℕ) → longest_text < length line → Answers line (unless_refused 11 (hex8 0) ++ text "\n")
-long_answer line h = to-text (no_word line h) 11 0 (no_text line h)
+long_answer line h = to_text (no_word line h) 11 0 (no_text line h)
 
-pub enough-kept : EnoughKept
-enough-kept k h line a x = by_lt k (length line) longer whole
+pub enough_kept : EnoughKept
+enough_kept k h line a x = by_lt k (length line) longer whole
   where
     longer : k < length line → Answers line a
     longer l =

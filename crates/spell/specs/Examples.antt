@@ -10,7 +10,7 @@ use Rattle.words.specs.Decode.{enables, decode_enabled, decode_paper}
 use Rattle.spelling.specs.Rows.{syntax_at}
 use Rattle.spelling.specs.Spell.{row_for, letter_values, spell}
 use Rattle.spelling.specs.Language.{a_word}
-use Rattle.spell.specs.Spelled.{is_hex_digit, digit_of, is_word, word_of, unless_refused, Answers, to_word, to-text}
+use Rattle.spell.specs.Spelled.{is_hex_digit, digit_of, is_word, word_of, unless_refused, Answers, to_word, to_text}
 
 -- the digits' values, in upper and in lower case
 values : map digit_of (text "0123456789ABCDEFabcdef")
@@ -18,8 +18,8 @@ values : map digit_of (text "0123456789ABCDEFabcdef")
 values = refl
 
 -- the bytes before and after them are none
-no-digits : map is_hex_digit (text "/:@G`g") ≡ false ∷ false ∷ false ∷ false ∷ false ∷ false ∷ []
-no-digits = refl
+no_digits : map is_hex_digit (text "/:@G`g") ≡ false ∷ false ∷ false ∷ false ∷ false ∷ false ∷ []
+no_digits = refl
 
 words : map word_of (text "C1A20008" ∷ text "c1a20008" ∷ text "FFFFFFFF" ∷ []) ≡ 0xC1A20008 ∷ 0xC1A20008 ∷ 0xFFFFFFFF ∷ []
 unfolding word_of
@@ -32,9 +32,9 @@ unfolding is_word
 no_words = refl
 
 -- "a line of eight hexadecimal digits becomes the word's text"
-word-to-text : Answers (text "C1A20008") (text "smlsll za.s[w8, 0:3, vgx2], { z0.b-z1.b }, { z2.b-z3.b }\n")
+word_to-text : Answers (text "C1A20008") (text "smlsll za.s[w8, 0:3, vgx2], { z0.b-z1.b }, { z2.b-z3.b }\n")
 unfolding is_word word_of unless_refused decode_paper decode_enabled describe enables valid_settings spell row_for letter_values syntax_at fill decimal decimal_up_to
-word-to-text = to_word refl
+word_to-text = to_word refl
 
 lower_case : Answers (text "0e228020") (text "smlal v0.8h, v1.8b, v2.8b\n")
 unfolding is_word word_of unless_refused decode_paper decode_enabled describe enables valid_settings spell row_for letter_values syntax_at fill decimal decimal_up_to
@@ -46,14 +46,14 @@ unfolding is_word word_of unless_refused decode_paper decode_enabled describe en
 word-refused = to_word refl
 
 -- "a line of text becomes the word's eight upper-case digits"
-text-to-word : Answers (text "smlsll za.s[w8, 0:3, vgx2], { z0.b-z1.b }, { z2.b-z3.b }") (text "C1A20008\n")
+text_to_word : Answers (text "smlsll za.s[w8, 0:3, vgx2], { z0.b-z1.b }, { z2.b-z3.b }") (text "C1A20008\n")
 unfolding is_word unless_refused describe enables valid_settings spell row_for letter_values syntax_at fill decimal decimal_up_to hex8 digits
-text-to-word =
-    to-text refl 0 0xC1A20008
+text_to_word =
+    to_text refl 0 0xC1A20008
     (a_word refl 0xC1A20008 (record { fits = lit< tt; fields = fields_said (describe 0xC1A20008); says = refl; short = false; spelled = refl }) refl)
 
 without_vgx : Answers (text "smlsll za.s[w8, 0:3], { z0.b-z1.b }, { z2.b-z3.b }") (text "C1A20008\n")
 unfolding is_word unless_refused describe enables valid_settings spell row_for letter_values syntax_at fill decimal decimal_up_to hex8 digits
 without_vgx =
-    to-text refl 0 0xC1A20008
+    to_text refl 0 0xC1A20008
     (a_word refl 0xC1A20008 (record { fits = lit< tt; fields = fields_said (describe 0xC1A20008); says = refl; short = true; spelled = refl }) refl)

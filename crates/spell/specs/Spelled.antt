@@ -58,7 +58,7 @@ word_text d = unless_refused d.0 (spell false d.1)
 -- the answer to a line
 pub data Answers (line : List ℕ) : List ℕ → Type 0 where
   to_word : is_word line ≡ true → Answers line (word_text (decode_paper all_on (word_of line)) ++ text "\n")
-  to-text : is_word line ≡ false → (number word : ℕ) → Reads all_on line (number, word) → Answers line (unless_refused number (hex8 word) ++ text "\n")
+  to_text : is_word line ≡ false → (number word : ℕ) → Reads all_on line (number, word) → Answers line (unless_refused number (hex8 word) ++ text "\n")
 
 -- what the function that writes it promises: the answer stands at the start of the room, and r is its length
 pub record Answered (line room room' : List ℕ) (r : ℕ) : Type 0 where

@@ -178,7 +178,7 @@ fn take_input(
     Ok(kept)
 }
 
-// Room for more than the longest text: of a longer line these bytes decide the answer (`enough-kept`).
+// Room for more than the longest text: of a longer line these bytes decide the answer (`enough_kept`).
 fn line_room() -> [u8; KEPT]
     ensures { (64 ≡ length result) × (longest_text < length result) }
 {

@@ -42,13 +42,13 @@ clear-nth [] e k = refl
 clear-nth (s ∷ ss) e zero = (both (clear (text s)) (all_clear ss) e).0
 clear-nth (s ∷ ss) e (suc k) = clear-nth ss (both (clear (text s)) (all_clear ss) e).1 k
 
-all-clear : all_clear syntaxes ≡ true
+all_clear_lem : all_clear syntaxes ≡ true
 unfolding clear
-all-clear = refl
+all_clear_lem = refl
 
 pub clear_at : (k : ℕ) → clear (syntax_at k) ≡ true
 unfolding syntax_at
-clear_at k = clear-nth syntaxes all-clear k
+clear_at k = clear-nth syntaxes all_clear_lem k
 
 -- ---- the numbers of a word's fields
 
@@ -151,19 +151,19 @@ pub fields_eq : (f g : Fields) → f.family ≡ g.family → f.unsigned ≡ g.un
 fields_eq f g family unsigned subtract lane part index destination first second group select offset =
     λ i. record { family = family i; unsigned = unsigned i; subtract = subtract i; lane = lane i; part = part i; index = index i; destination = destination i; first = first i; second = second i; group = group i; select = select i; offset = offset i }
 
-sign-back : (u : Bool) → eqb (sign_byte u) (byte_of "u") ≡ u
-sign-back true = refl
-sign-back false = refl
+sign_back : (u : Bool) → eqb (sign_byte u) (byte_of "u") ≡ u
+sign_back true = refl
+sign_back false = refl
 
 add_back : (s : Bool) → eqb (add_byte s) (byte_of "s") ≡ s
 add_back true = refl
 add_back false = refl
 
-one-back : (n : ℕ) → group_of n 0 ≡ 1
-one-back n = let z : 0 - n ≡ 0 = omega arith in rw z
+one_back : (n : ℕ) → group_of n 0 ≡ 1
+one_back n = let z : 0 - n ≡ 0 = omega arith in rw z
 
-group-back : (n g : ℕ) → (0 < g) × (g < 5) → group_of n (n + g - 1) ≡ g
-group-back n g h = let m : n + g - 1 - n < 4 = omega arith in rw (lt-ltb (n + g - 1 - n) 4 m) (omega arith)
+group_back : (n g : ℕ) → (0 < g) × (g < 5) → group_of n (n + g - 1) ≡ g
+group_back n g h = let m : n + g - 1 - n < 4 = omega arith in rw (lt-ltb (n + g - 1 - n) 4 m) (omega arith)
 
 -- both texts
 abbrev Both : Fields → Type 0
@@ -178,35 +178,35 @@ a_back : (u s : Bool) (i d n m p : ℕ) → p < 2 → Both (plain ByElement u s 
 unfolding row_for syntax_at among letter_values
 a_back u s i d n m =
     one_bit (λ (p : ℕ). Both (plain ByElement u s 16 p i d n m) × Both (plain ByElement u s 32 p i d n m)) (
-      (λ short. fields_eq _ _ refl (sign-back u) (add_back s) refl refl refl refl refl refl (one-back n) refl refl),
-      (λ short. fields_eq _ _ refl (sign-back u) (add_back s) refl refl refl refl refl refl (one-back n) refl refl),
+      (λ short. fields_eq _ _ refl (sign_back u) (add_back s) refl refl refl refl refl refl (one_back n) refl refl),
+      (λ short. fields_eq _ _ refl (sign_back u) (add_back s) refl refl refl refl refl refl (one_back n) refl refl),
     ) (
-      (λ short. fields_eq _ _ refl (sign-back u) (add_back s) refl refl refl refl refl refl (one-back n) refl refl),
-      (λ short. fields_eq _ _ refl (sign-back u) (add_back s) refl refl refl refl refl refl (one-back n) refl refl),
+      (λ short. fields_eq _ _ refl (sign_back u) (add_back s) refl refl refl refl refl refl (one_back n) refl refl),
+      (λ short. fields_eq _ _ refl (sign_back u) (add_back s) refl refl refl refl refl refl (one_back n) refl refl),
     )
 
-b-back : (u s : Bool) (d n m p : ℕ) → p < 2 → (size : ℕ) → size < 4 → eqb size 3 ≡ false → Both (plain Vector u s (8 * 2 ^ size) p 0 d n m)
+b_back : (u s : Bool) (d n m p : ℕ) → p < 2 → (size : ℕ) → size < 4 → eqb size 3 ≡ false → Both (plain Vector u s (8 * 2 ^ size) p 0 d n m)
 unfolding row_for syntax_at among letter_values
-b-back u s d n m =
+b_back u s d n m =
     one_bit (λ (p : ℕ). (size : ℕ) → size < 4 → eqb size 3 ≡ false → Both (plain Vector u s (8 * 2 ^ size) p 0 d n m))
     (by_size (λ (size : ℕ). Both (plain Vector u s (8 * 2 ^ size) 0 0 d n m))
-    (λ short. fields_eq _ _ refl (sign-back u) (add_back s) refl refl refl refl refl refl (one-back n) refl refl)
-    (λ short. fields_eq _ _ refl (sign-back u) (add_back s) refl refl refl refl refl refl (one-back n) refl refl)
-    (λ short. fields_eq _ _ refl (sign-back u) (add_back s) refl refl refl refl refl refl (one-back n) refl refl))
+    (λ short. fields_eq _ _ refl (sign_back u) (add_back s) refl refl refl refl refl refl (one_back n) refl refl)
+    (λ short. fields_eq _ _ refl (sign_back u) (add_back s) refl refl refl refl refl refl (one_back n) refl refl)
+    (λ short. fields_eq _ _ refl (sign_back u) (add_back s) refl refl refl refl refl refl (one_back n) refl refl))
     (by_size (λ (size : ℕ). Both (plain Vector u s (8 * 2 ^ size) 1 0 d n m))
-    (λ short. fields_eq _ _ refl (sign-back u) (add_back s) refl refl refl refl refl refl (one-back n) refl refl)
-    (λ short. fields_eq _ _ refl (sign-back u) (add_back s) refl refl refl refl refl refl (one-back n) refl refl)
-    (λ short. fields_eq _ _ refl (sign-back u) (add_back s) refl refl refl refl refl refl (one-back n) refl refl))
+    (λ short. fields_eq _ _ refl (sign_back u) (add_back s) refl refl refl refl refl refl (one_back n) refl refl)
+    (λ short. fields_eq _ _ refl (sign_back u) (add_back s) refl refl refl refl refl refl (one_back n) refl refl)
+    (λ short. fields_eq _ _ refl (sign_back u) (add_back s) refl refl refl refl refl refl (one_back n) refl refl))
 
-c-back : (s : Bool) (i d n m p : ℕ) → p < 2 → Both (plain Saturating false s 16 p i d n m) × Both (plain Saturating false s 32 p i d n m)
+c_back : (s : Bool) (i d n m p : ℕ) → p < 2 → Both (plain Saturating false s 16 p i d n m) × Both (plain Saturating false s 32 p i d n m)
 unfolding row_for syntax_at among letter_values
-c-back s i d n m =
+c_back s i d n m =
     one_bit (λ (p : ℕ). Both (plain Saturating false s 16 p i d n m) × Both (plain Saturating false s 32 p i d n m)) (
-      (λ short. fields_eq _ _ refl refl (add_back s) refl refl refl refl refl refl (one-back n) refl refl),
-      (λ short. fields_eq _ _ refl refl (add_back s) refl refl refl refl refl refl (one-back n) refl refl),
+      (λ short. fields_eq _ _ refl refl (add_back s) refl refl refl refl refl refl (one_back n) refl refl),
+      (λ short. fields_eq _ _ refl refl (add_back s) refl refl refl refl refl refl (one_back n) refl refl),
     ) (
-      (λ short. fields_eq _ _ refl refl (add_back s) refl refl refl refl refl refl (one-back n) refl refl),
-      (λ short. fields_eq _ _ refl refl (add_back s) refl refl refl refl refl refl (one-back n) refl refl),
+      (λ short. fields_eq _ _ refl refl (add_back s) refl refl refl refl refl refl (one_back n) refl refl),
+      (λ short. fields_eq _ _ refl refl (add_back s) refl refl refl refl refl refl (one_back n) refl refl),
     )
 
 -- fields of a family that writes ZA
@@ -215,46 +215,46 @@ grouped family u s lane n m g v o =
     record { family = family; unsigned = u; subtract = s; lane = lane; part = 0; index = 0; destination = 0; first = n; second = m; group = g; select = v; offset = o }
 
 -- the same of a lane that its text names
-d-lane : (u s short : Bool) (n m g v o : ℕ) → (0 < g) × (g < 5)
+d_lane : (u s short : Bool) (n m g v o : ℕ) → (0 < g) × (g < 5)
     → Back (row_for short (grouped LongLong u s 8 n m g v o)) (grouped LongLong u s 8 n m g v o)
     × Back (row_for short (grouped LongLong u s 16 n m g v o)) (grouped LongLong u s 16 n m g v o)
 unfolding row_for syntax_at among letter_values
-d-lane u s true n m g v o h = (
-  fields_eq _ _ refl (sign-back u) (add_back s) refl refl refl refl refl refl (group-back n g h) refl refl,
-  fields_eq _ _ refl (sign-back u) (add_back s) refl refl refl refl refl refl (group-back n g h) refl refl,
+d_lane u s true n m g v o h = (
+  fields_eq _ _ refl (sign_back u) (add_back s) refl refl refl refl refl refl (group_back n g h) refl refl,
+  fields_eq _ _ refl (sign_back u) (add_back s) refl refl refl refl refl refl (group_back n g h) refl refl,
 )
-d-lane u s false n m g v o h = (
-  fields_eq _ _ refl (sign-back u) (add_back s) refl refl refl refl refl refl (group-back n g h) refl refl,
-  fields_eq _ _ refl (sign-back u) (add_back s) refl refl refl refl refl refl (group-back n g h) refl refl,
+d_lane u s false n m g v o h = (
+  fields_eq _ _ refl (sign_back u) (add_back s) refl refl refl refl refl refl (group_back n g h) refl refl,
+  fields_eq _ _ refl (sign_back u) (add_back s) refl refl refl refl refl refl (group_back n g h) refl refl,
 )
 
-d-back : (u s : Bool) (n m g v o : ℕ) → (0 < g) × (g < 5) → (z : ℕ) → z < 2 → Both (grouped LongLong u s (8 + 8 * z) n m g v o)
-d-back u s n m g v o h =
+d_back : (u s : Bool) (n m g v o : ℕ) → (0 < g) × (g < 5) → (z : ℕ) → z < 2 → Both (grouped LongLong u s (8 + 8 * z) n m g v o)
+d_back u s n m g v o h =
     one_bit (λ (z : ℕ). Both (grouped LongLong u s (8 + 8 * z) n m g v o))
-    (λ short. (d-lane u s short n m g v o h).0)
-    (λ short. (d-lane u s short n m g v o h).1)
+    (λ short. (d_lane u s short n m g v o h).0)
+    (λ short. (d_lane u s short n m g v o h).1)
 
-e-back : (u s : Bool) (n m g v o : ℕ) → (0 < g) × (g < 5) → Both (grouped Long u s 16 n m g v o)
+e_back : (u s : Bool) (n m g v o : ℕ) → (0 < g) × (g < 5) → Both (grouped Long u s 16 n m g v o)
 unfolding row_for syntax_at among letter_values
-e-back u s n m g v o h true = fields_eq _ _ refl (sign-back u) (add_back s) refl refl refl refl refl refl (group-back n g h) refl refl
-e-back u s n m g v o h false = fields_eq _ _ refl (sign-back u) (add_back s) refl refl refl refl refl refl (group-back n g h) refl refl
+e_back u s n m g v o h true = fields_eq _ _ refl (sign_back u) (add_back s) refl refl refl refl refl refl (group_back n g h) refl refl
+e_back u s n m g v o h false = fields_eq _ _ refl (sign_back u) (add_back s) refl refl refl refl refl refl (group_back n g h) refl refl
 
-both-back : (w : ℕ) (f : Fields) → describe w ≡ As f → Both f
-both-back w f =
+both_back : (w : ℕ) (f : Fields) → describe w ≡ As f → Both f
+both_back w f =
     let a = a_back (is_one (value row_a w "U")) (is_one (value row_a w "S")) in
     let q : value row_a w "Q" < 2 = omega arith in
     said_each Both w f
     ((λ _ _. cond-holds Both (eqb (value row_a w "s") 0b01) _ _ (λ _. (a _ _ _ _ (value row_a w "Q") q).0) (λ _. (a _ _ _ _ (value row_a w "Q") q).1))
-    then (λ _ o. b-back (is_one (value row_b w "U")) (is_one (value row_b w "S")) _ _ _ (value row_b w "Q") (omega arith) (value row_b w "s") (omega arith) o)
-    then (λ _ _. (c-back (is_one (value row_c16 w "S")) _ _ _ _ (value row_c16 w "T") (omega arith)).0)
-    then (λ _ _. (c-back (is_one (value row_c32 w "S")) _ _ _ _ (value row_c32 w "T") (omega arith)).1)
-    then (λ _ _. d-back (is_one (value row_d2 w "U")) (is_one (value row_d2 w "S")) _ _ 2 _ _ (omega arith) (value row_d2 w "z") (omega arith))
-    then (λ _ _. d-back (is_one (value row_d4 w "U")) (is_one (value row_d4 w "S")) _ _ 4 _ _ (omega arith) (value row_d4 w "z") (omega arith))
-    then (λ _ _. e-back (is_one (value row_e2 w "U")) (is_one (value row_e2 w "S")) _ _ 2 _ _ (omega arith))
-    then (λ _ _. e-back (is_one (value row_e4 w "U")) (is_one (value row_e4 w "S")) _ _ 4 _ _ (omega arith))
+    then (λ _ o. b_back (is_one (value row_b w "U")) (is_one (value row_b w "S")) _ _ _ (value row_b w "Q") (omega arith) (value row_b w "s") (omega arith) o)
+    then (λ _ _. (c_back (is_one (value row_c16 w "S")) _ _ _ _ (value row_c16 w "T") (omega arith)).0)
+    then (λ _ _. (c_back (is_one (value row_c32 w "S")) _ _ _ _ (value row_c32 w "T") (omega arith)).1)
+    then (λ _ _. d_back (is_one (value row_d2 w "U")) (is_one (value row_d2 w "S")) _ _ 2 _ _ (omega arith) (value row_d2 w "z") (omega arith))
+    then (λ _ _. d_back (is_one (value row_d4 w "U")) (is_one (value row_d4 w "S")) _ _ 4 _ _ (omega arith) (value row_d4 w "z") (omega arith))
+    then (λ _ _. e_back (is_one (value row_e2 w "U")) (is_one (value row_e2 w "S")) _ _ 2 _ _ (omega arith))
+    then (λ _ _. e_back (is_one (value row_e4 w "U")) (is_one (value row_e4 w "S")) _ _ 4 _ _ (omega arith))
     then tt)
 
 -- the fields of a word are read back from either of its texts
 pub read_back : (w : ℕ) (f : Fields) (short : Bool) → describe w ≡ As f → candidate_at (row_for short f) (spell short f) ≡ f
 unfolding spell
-read_back w f short e = candidate_is (row_for short f) f (two_digits f (figures w f e)) (both-back w f e short)
+read_back w f short e = candidate_is (row_for short f) f (two_digits f (figures w f e)) (both_back w f e short)

@@ -44,6 +44,6 @@ pub starts_few : (k : ℕ) → k < 19 → get_or row_starts k 0 ≤ 637
 starts_few = each_below (λ (k : ℕ). get_or row_starts k 0 ≤ 637) 19 (omega arith)
 
 -- no row has more than 56 bytes
-pub row-short : (k : ℕ) → k < 18 → length (syntax_at k) ≤ 56
+pub row_short : (k : ℕ) → k < 18 → length (syntax_at k) ≤ 56
 unfolding syntax_at
-row-short = each_below (λ (k : ℕ). length (syntax_at k) ≤ 56) 18 (omega arith)
+row_short = each_below (λ (k : ℕ). length (syntax_at k) ≤ 56) 18 (omega arith)

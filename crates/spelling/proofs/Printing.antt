@@ -37,8 +37,8 @@ module _ (s : Settings) (word : ℕ) (room : List ℕ) where
       (λ _. refusal n)
 
   -- no text is longer than the constant
-  pub print-short : word < 2 ^ 32 → (print_paper s word room).0.1 ≤ longest_text
-  print-short fits =
+  pub print_short : word < 2 ^ 32 → (print_paper s word room).0.1 ≤ longest_text
+  print_short fits =
       print_holds (λ (x : (ℕ × ℕ) × List ℕ). x.0.1 ≤ longest_text)
       (λ f e. no_longer (spell false f) word (record { fits = fits; fields = f; says = ((decodes_exactly s word f).0 e).says; short = false; spelled = refl }))
       (λ _. omega arith)

@@ -59,10 +59,10 @@ has_room t u room room' r b w =
     rw (le-leb _ _ l) (ap₂ (λ (n : ℕ) (x : List ℕ). ((0, n), x)) e q)
 
 -- print by what decode answers
-pub print-word : (s : Settings) (w : ℕ) (f : Fields) (room : List ℕ) → decode_paper s w ≡ (0, f) → print_paper s w room ≡ put_into (spell false f) room
+pub print_word : (s : Settings) (w : ℕ) (f : Fields) (room : List ℕ) → decode_paper s w ≡ (0, f) → print_paper s w room ≡ put_into (spell false f) room
 unfolding print_paper
-print-word s w f room e = rw e
+print_word s w f room e = rw e
 
-pub print-refused : (s : Settings) (w n : ℕ) (f : Fields) (room : List ℕ) → (n ≡ 0 → ⊥) → decode_paper s w ≡ (n, f) → print_paper s w room ≡ ((n, 0), room)
+pub print_refused : (s : Settings) (w n : ℕ) (f : Fields) (room : List ℕ) → (n ≡ 0 → ⊥) → decode_paper s w ≡ (n, f) → print_paper s w room ≡ ((n, 0), room)
 unfolding print_paper
-print-refused s w n f room h e = rw (e, ne_eqb n 0 h)
+print_refused s w n f room h e = rw (e, ne_eqb n 0 h)

@@ -40,20 +40,20 @@ small_choice : (b : Bool) (x y : ℕ) → x < 18 → y < 18 → cond b x y < 18
 small_choice true x y h g = h
 small_choice false x y h g = g
 
-row-by-below : (short : Bool) (family : Family) (lane part : ℕ) → row_by short family lane part < 18
-row-by-below short ByElement lane part =
+row_by_below : (short : Bool) (family : Family) (lane part : ℕ) → row_by short family lane part < 18
+row_by_below short ByElement lane part =
     small_choice (eqb lane 16) _ _ (small_choice (eqb part 0) 0 1 (omega arith) (omega arith)) (small_choice (eqb part 0) 2 3 (omega arith) (omega arith))
-row-by-below short Vector lane part =
+row_by_below short Vector lane part =
     small_choice (eqb lane 8) _ _ (small_choice (eqb part 0) 4 5 (omega arith) (omega arith))
     (small_choice (eqb lane 16) _ _ (small_choice (eqb part 0) 6 7 (omega arith) (omega arith)) (small_choice (eqb part 0) 8 9 (omega arith) (omega arith)))
-row-by-below short Saturating lane part = small_choice (eqb lane 16) 10 11 (omega arith) (omega arith)
-row-by-below short LongLong lane part =
+row_by_below short Saturating lane part = small_choice (eqb lane 16) 10 11 (omega arith) (omega arith)
+row_by_below short LongLong lane part =
     small_choice short _ _ (small_choice (eqb lane 8) 15 16 (omega arith) (omega arith)) (small_choice (eqb lane 8) 12 13 (omega arith) (omega arith))
-row-by-below short Long lane part = small_choice short 17 14 (omega arith) (omega arith)
+row_by_below short Long lane part = small_choice short 17 14 (omega arith) (omega arith)
 
 pub row_below : (short : Bool) (f : Fields) → row_for short f < 18
 unfolding row_for
-row_below short f = row-by-below short f.family f.lane f.part
+row_below short f = row_by_below short f.family f.lane f.part
 
 -- ---- a row that is tried
 
@@ -64,17 +64,17 @@ spelled_candidate {k} {t} {w} p =
     rw (← p.row, q.spelled) (read_back w q.fields q.short q.says)
 
 -- and the text is that of the candidate
-pub spelled-text : {k : ℕ} {t : List ℕ} {w : ℕ} → SpellsBy k t w → t ≡ fill (letter_values (candidate_at k t)) (syntax_at k)
+pub spelled_text : {k : ℕ} {t : List ℕ} {w : ℕ} → SpellsBy k t w → t ≡ fill (letter_values (candidate_at k t)) (syntax_at k)
 unfolding spell
-spelled-text {k} {t} {w} p =
+spelled_text {k} {t} {w} p =
     let q = p.spells in
     q.spelled
     ∙ ap (λ (f : Fields). fill (letter_values f) (syntax_at (row_for q.short q.fields))) (sym (spelled_candidate p))
     ∙ ap (λ (j : ℕ). fill (letter_values (candidate_at k t)) (syntax_at j)) p.row
 
 -- fields that no word has are no candidate's
-pub no-word_of : (t : List ℕ) (k : ℕ) (f : Fields) → f ≡ candidate_at k t → ((w : ℕ) → Has f w → ⊥) → (w : ℕ) → SpellsBy k t w → ⊥
-no-word_of t k f a n w p = n w (rw (a ∙ spelled_candidate p) (record { fits = p.spells.fits; says = p.spells.says }))
+pub no_word_of : (t : List ℕ) (k : ℕ) (f : Fields) → f ≡ candidate_at k t → ((w : ℕ) → Has f w → ⊥) → (w : ℕ) → SpellsBy k t w → ⊥
+no_word_of t k f a n w p = n w (rw (a ∙ spelled_candidate p) (record { fits = p.spells.fits; says = p.spells.says }))
 
 -- a word of the candidate is the word of a text that is the candidate's
 pub candidate_spells : (k : ℕ) (t : List ℕ) (f : Fields) (w : ℕ) → k < 18 → f ≡ candidate_at k t → t ≡ fill (letter_values f) (syntax_at k) → Has f w
@@ -96,7 +96,7 @@ candidate_spells k t f w h a e has =
 
 -- where it is not
 pub other_text : (t : List ℕ) (k : ℕ) (f : Fields) → f ≡ candidate_at k t → (t ≡ fill (letter_values f) (syntax_at k) → ⊥) → (w : ℕ) → SpellsBy k t w → ⊥
-other_text t k f a n w p = n (spelled-text p ∙ ap (λ (g : Fields). fill (letter_values g) (syntax_at k)) (sym a))
+other_text t k f a n w p = n (spelled_text p ∙ ap (λ (g : Fields). fill (letter_values g) (syntax_at k)) (sym a))
 
 -- one row more was tried
 pub one_tried : (t : List ℕ) (k : ℕ) → ((j : ℕ) → j < k → (w : ℕ) → SpellsBy j t w → ⊥) → ((w : ℕ) → SpellsBy k t w → ⊥)
@@ -110,12 +110,12 @@ all_tried t k h a w p =
     a (row_for p.short p.fields) (omega arith) w (record { spells = p; row = refl })
 
 -- a text that the row does not fit is no text of the row
-pub fits-not-row : (t : List ℕ) (k : ℕ) (row : List ℕ) → row ≡ syntax_at k → fits row t ≡ false → (w : ℕ) → SpellsBy k t w → ⊥
-fits-not-row t k row b n w p =
+pub fits_not-row : (t : List ℕ) (k : ℕ) (row : List ℕ) → row ≡ syntax_at k → fits row t ≡ false → (w : ℕ) → SpellsBy k t w → ⊥
+fits_not-row t k row b n w p =
     let q = p.spells in
     let two : TwoDigits (letter_values (candidate_at k t)) = rw (spelled_candidate p) (two_digits q.fields (figures w q.fields q.says)) in
     never_both (fits row t)
-    (ap (λ (x : List ℕ). fits x t) b ∙ ap (fits (syntax_at k)) (spelled-text p) ∙ fits-fill (letter_values (candidate_at k t)) two (syntax_at k) (clear_at k))
+    (ap (λ (x : List ℕ). fits x t) b ∙ ap (fits (syntax_at k)) (spelled_text p) ∙ fits-fill (letter_values (candidate_at k t)) two (syntax_at k) (clear_at k))
     n
 
 -- ---- a word that was found
@@ -126,9 +126,9 @@ decoded_as : (s : Settings) (w : ℕ) (f : Fields) → valid_settings s ≡ true
 unfolding decode_paper decode_enabled
 decoded_as s w f v e = rw (v, e)
 
-pub read_as-decoded : (s : Settings) (t : List ℕ) (w : ℕ) (n : ℕ) (g : Fields) → valid_settings s ≡ true → Spells t w → decode_paper s w ≡ (n, g)
+pub read_as_decoded : (s : Settings) (t : List ℕ) (w : ℕ) (n : ℕ) (g : Fields) → valid_settings s ≡ true → Spells t w → decode_paper s w ≡ (n, g)
     → Reads s t (n, cond (eqb n 0) w 0)
-read_as-decoded s t w n g v p e =
+read_as_decoded s t w n g v p e =
     by_cond {A = ℕ × Fields} (enables s.features.0 p.fields) _ _ _ yes no (sym (decoded_as s w p.fields v p.says) ∙ e)
   where
     yes : enables s.features.0 p.fields ≡ true → ◌≡◌ {A = ℕ × Fields} (0, p.fields) (n, g) → Reads s t (n, cond (eqb n 0) w 0)

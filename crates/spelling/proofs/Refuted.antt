@@ -14,14 +14,14 @@ use Rattle.syntax.specs.Syntax.{fill}
 use Rattle.syntax.specs.Scan.{fits, taken, number_of, passes_of}
 use Rattle.words.specs.Says.{describe}
 use Rattle.encoding.specs.Candidate.{candidate_of, says_only}
-use Rattle.encoding.proofs.Equal.{fails-none}
+use Rattle.encoding.proofs.Equal.{fails_none}
 use Rattle.spelling.specs.Rows.{syntax_at}
 use Rattle.spelling.specs.Spell.{letter_values, row_for}
 use Rattle.spelling.specs.Language.{Spells}
 use Rattle.spelling.specs.Examples.{not_texts, NotOfLanguage}
 use Rattle.spelling.specs.Candidate.{candidate_at}
 use Rattle.spelling.specs.Tried.{SpellsBy}
-use Rattle.spelling.proofs.Reading.{row_below, spelled-text, no-word_of, fits-not-row}
+use Rattle.spelling.proofs.Reading.{row_below, spelled_text, no_word_of, fits_not-row}
 
 abbrev same : List ℕ → List ℕ → Bool
 same [] [] = true
@@ -60,8 +60,8 @@ is_text (suc n) t = is_row n t || is_text n t
 
 row_is : (k : ℕ) (t : List ℕ) (w : ℕ) → SpellsBy k t w → is_row k t ≡ true
 row_is k t w p =
-    all_three (held _ (λ e. fits-not-row t k (syntax_at k) refl e w p)) (ap (λ (x : List ℕ). same x t) (sym (spelled-text p)) ∙ same_self t)
-    (held _ (λ e. no-word_of t k (candidate_at k t) refl (fails-none (candidate_at k t) e) w p))
+    all_three (held _ (λ e. fits_not-row t k (syntax_at k) refl e w p)) (ap (λ (x : List ℕ). same x t) (sym (spelled_text p)) ∙ same_self t)
+    (held _ (λ e. no_word_of t k (candidate_at k t) refl (fails_none (candidate_at k t) e) w p))
 
 or_left : {a : Bool} (b : Bool) → a ≡ true → (a || b) ≡ true
 or_left b e = rw e
@@ -70,17 +70,17 @@ or_right : (a : Bool) {b : Bool} → b ≡ true → (a || b) ≡ true
 or_right true e = refl
 or_right false e = e
 
-row-found : (n : ℕ) (t : List ℕ) (k : ℕ) → k < n → is_row k t ≡ true → is_text n t ≡ true
-row-found zero t k h e = absurd (omega arith)
-row-found (suc n) t k h e =
+row_found : (n : ℕ) (t : List ℕ) (k : ℕ) → k < n → is_row k t ≡ true → is_text n t ≡ true
+row_found zero t k h e = absurd (omega arith)
+row_found (suc n) t k h e =
     by_lt k n
-    (λ (l : k < n). or_right (is_row n t) (row-found n t k l e))
+    (λ (l : k < n). or_right (is_row n t) (row_found n t k l e))
     (λ (l : n ≤ k). let q : k ≡ n = omega arith in or_left (is_text n t) (ap (λ (j : ℕ). is_row j t) (sym q) ∙ e))
 
 refuted : (t : List ℕ) → is_text 18 t ≡ false → (w : ℕ) → Spells t w → ⊥
 refuted t e w p =
     let b : SpellsBy (row_for p.short p.fields) t w = record { spells = p; row = refl } in
-    never_both (is_text 18 t) (row-found 18 t (row_for p.short p.fields) (row_below p.short p.fields) (row_is _ t w b)) e
+    never_both (is_text 18 t) (row_found 18 t (row_for p.short p.fields) (row_below p.short p.fields) (row_is _ t w b)) e
 
 abbrev none_is_text : List String → Bool
 none_is_text [] = true

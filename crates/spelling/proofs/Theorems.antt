@@ -20,16 +20,16 @@ use Rattle.spelling.specs.Rows.{syntaxes, nth, syntax_at}
 use Rattle.spelling.specs.Spell.{letter_values, row_for, spell}
 use Rattle.spelling.specs.Candidate.{candidate_at}
 use Rattle.spelling.specs.Print.{printed_says, PrintPromise}
-use Rattle.spelling.specs.Language.{Spells, Reads, read_says, ReadPromise, bad-settings, not-text, not_enabled, a_word}
+use Rattle.spelling.specs.Language.{Spells, Reads, read_says, ReadPromise, bad_settings, not_text, not_enabled, a_word}
 use Rattle.spelling.specs.Theorems.{OneReading, PrintsPreferred, PrintAfterRead, ReadAfterPrint}
 use Rattle.spelling.specs.declared.Printed.{Printed}
 use Rattle.spelling.specs.declared.Printed.TheVariants.{Text, Refused}
 use Rattle.spelling.specs.declared.WordRead.{WordRead}
 use Rattle.spelling.specs.declared.WordRead.TheVariants as read
-use Rattle.settings.proofs.Refusals.{refused-not_0, refused_known}
+use Rattle.settings.proofs.Refusals.{refused_not_0, refused_known}
 use Rattle.spelling.proofs.Back.{clear_at, figures, two_digits, read_back}
 use Rattle.spelling.proofs.Reading.{row_below}
-use Rattle.spelling.proofs.Putting.{print-word}
+use Rattle.spelling.proofs.Putting.{print_word}
 
 -- ---- no text is that of two rows
 
@@ -85,64 +85,64 @@ one_reading t w v p q =
     one_word q.fields w v (record { fits = p.fits; says = p.says ∙ ap As (same-fields p q) }) (record { fits = q.fits; says = q.says })
 
 -- an answer is known by what it says
-answers-same : (r q : WordRead) → read_says r ≡ read_says q → r ≡ q
-answers-same (read.Word w) (read.Word v) e = ap read.Word (ap (λ (a : ℕ × ℕ). a.1) e)
-answers-same (read.Word w) (read.Refused q) e = absurd (refused-not_0 q 0 w (sym e))
-answers-same (read.Refused r) (read.Word v) e = absurd (refused-not_0 r 0 v e)
-answers-same (read.Refused r) (read.Refused q) e = ap read.Refused (refused_known r q 0 0 e)
+answers_same : (r q : WordRead) → read_says r ≡ read_says q → r ≡ q
+answers_same (read.Word w) (read.Word v) e = ap read.Word (ap (λ (a : ℕ × ℕ). a.1) e)
+answers_same (read.Word w) (read.Refused q) e = absurd (refused_not_0 q 0 w (sym e))
+answers_same (read.Refused r) (read.Word v) e = absurd (refused_not_0 r 0 v e)
+answers_same (read.Refused r) (read.Refused q) e = ap read.Refused (refused_known r q 0 0 e)
 
-prints-same : (r q : Printed) → printed_says r ≡ printed_says q → r ≡ q
-prints-same (Text n) (Text m) e = ap Text (ap (λ (a : ℕ × ℕ). a.1) e)
-prints-same (Text n) (Refused q) e = absurd (refused-not_0 q 0 n (sym e))
-prints-same (Refused r) (Text m) e = absurd (refused-not_0 r 0 m e)
-prints-same (Refused r) (Refused q) e = ap Refused (refused_known r q 0 0 e)
+prints_same : (r q : Printed) → printed_says r ≡ printed_says q → r ≡ q
+prints_same (Text n) (Text m) e = ap Text (ap (λ (a : ℕ × ℕ). a.1) e)
+prints_same (Text n) (Refused q) e = absurd (refused_not_0 q 0 n (sym e))
+prints_same (Refused r) (Text m) e = absurd (refused_not_0 r 0 m e)
+prints_same (Refused r) (Refused q) e = ap Refused (refused_known r q 0 0 e)
 
 -- any two answers that read's promise allows are equal
 pub reads_unique : (s : Settings) (t : List ℕ) (a b : ℕ × ℕ) → Reads s t a → Reads s t b → a ≡ b
-reads_unique s t a b (bad-settings p) (bad-settings q) = refl
-reads_unique s t a b (bad-settings p) (not-text q _) = absurd (never_both _ q p)
-reads_unique s t a b (bad-settings p) (not_enabled q _ _ _) = absurd (never_both _ q p)
-reads_unique s t a b (bad-settings p) (a_word q _ _ _) = absurd (never_both _ q p)
-reads_unique s t a b (not-text p _) (bad-settings q) = absurd (never_both _ p q)
-reads_unique s t a b (not-text _ _) (not-text _ _) = refl
-reads_unique s t a b (not-text _ none) (not_enabled _ w h _) = absurd (none w h)
-reads_unique s t a b (not-text _ none) (a_word _ w h _) = absurd (none w h)
-reads_unique s t a b (not_enabled p _ _ _) (bad-settings q) = absurd (never_both _ p q)
-reads_unique s t a b (not_enabled _ w h _) (not-text _ none) = absurd (none w h)
+reads_unique s t a b (bad_settings p) (bad_settings q) = refl
+reads_unique s t a b (bad_settings p) (not_text q _) = absurd (never_both _ q p)
+reads_unique s t a b (bad_settings p) (not_enabled q _ _ _) = absurd (never_both _ q p)
+reads_unique s t a b (bad_settings p) (a_word q _ _ _) = absurd (never_both _ q p)
+reads_unique s t a b (not_text p _) (bad_settings q) = absurd (never_both _ p q)
+reads_unique s t a b (not_text _ _) (not_text _ _) = refl
+reads_unique s t a b (not_text _ none) (not_enabled _ w h _) = absurd (none w h)
+reads_unique s t a b (not_text _ none) (a_word _ w h _) = absurd (none w h)
+reads_unique s t a b (not_enabled p _ _ _) (bad_settings q) = absurd (never_both _ p q)
+reads_unique s t a b (not_enabled _ w h _) (not_text _ none) = absurd (none w h)
 reads_unique s t a b (not_enabled _ _ _ _) (not_enabled _ _ _ _) = refl
 reads_unique s t a b (not_enabled _ w p d) (a_word _ v q e) = absurd (never_both _ e (ap (enables s.features.0) (sym (same-fields p q)) ∙ d))
-reads_unique s t a b (a_word p _ _ _) (bad-settings q) = absurd (never_both _ p q)
-reads_unique s t a b (a_word _ w h _) (not-text _ none) = absurd (none w h)
+reads_unique s t a b (a_word p _ _ _) (bad_settings q) = absurd (never_both _ p q)
+reads_unique s t a b (a_word _ w h _) (not_text _ none) = absurd (none w h)
 reads_unique s t a b (a_word _ v q e) (not_enabled _ w p d) = absurd (never_both _ e (ap (enables s.features.0) (sym (same-fields p q)) ∙ d))
 reads_unique s t a b (a_word _ v p _) (a_word _ w q _) = ap (λ (x : ℕ). (0, x)) (one_reading _ _ _ p q)
 
 -- and so does the answer that the code gives
 pub read_unique : (s : Settings) (t : List ℕ) (r q : WordRead) → ReadPromise s t r → ReadPromise s t q → r ≡ q
-read_unique s t r q a b = answers-same r q (reads_unique s t (read_says r) (read_says q) a b)
+read_unique s t r q a b = answers_same r q (reads_unique s t (read_says r) (read_says q) a b)
 
 -- any two answers that print's promise allows are equal, and so is the room
 pub print_unique : (s : Settings) (w : ℕ) (room : List ℕ) (r q : Printed) (room₁ room₂ : List ℕ) → PrintPromise s w room r room₁ → PrintPromise s w room q room₂
     → (r ≡ q) × (room₁ ≡ room₂)
 print_unique s w room r q room₁ room₂ a b =
     let e = a ∙ sym b in
-    (prints-same r q (ap (λ (x : (ℕ × ℕ) × List ℕ). x.0) e), ap (λ (x : (ℕ × ℕ) × List ℕ). x.1) e)
+    (prints_same r q (ap (λ (x : (ℕ × ℕ) × List ℕ). x.0) e), ap (λ (x : (ℕ × ℕ) × List ℕ). x.1) e)
 
 -- ---- print and read
 
-pub print-after-read : PrintAfterRead
-print-after-read s t w room r = from (0, w) refl r
+pub print_after_read : PrintAfterRead
+print_after_read s t w room r = from (0, w) refl r
   where
     from : (a : ℕ × ℕ) → a ≡ (0, w) → Reads s t a → PrintsPreferred s t w room
-    from a e (bad-settings _) = absurd (omega (arith, ap (λ (a : ℕ × ℕ). a.0) e))
-    from a e (not-text _ _) = absurd (omega (arith, ap (λ (a : ℕ × ℕ). a.0) e))
+    from a e (bad_settings _) = absurd (omega (arith, ap (λ (a : ℕ × ℕ). a.0) e))
+    from a e (not_text _ _) = absurd (omega (arith, ap (λ (a : ℕ × ℕ). a.0) e))
     from a e (not_enabled _ _ _ _) = absurd (omega (arith, ap (λ (a : ℕ × ℕ). a.0) e))
     from a e (a_word v x p n) =
         let q : x ≡ w = ap (λ (a : ℕ × ℕ). a.1) e in
         subst (λ (y : ℕ). PrintsPreferred s t y room) q
-        (record { spells = p; prints = print-word s x p.fields room ((decodes_exactly s x p.fields).1 (record { valid = v; says = p.says; enabled = n })) })
+        (record { spells = p; prints = print_word s x p.fields room ((decodes_exactly s x p.fields).1 (record { valid = v; says = p.says; enabled = n })) })
 
 -- with vgx and without
-pub read-after_print : (short : Bool) → ReadAfterPrint short
-read-after_print short s w f answer lt e r =
+pub read_after_print : (short : Bool) → ReadAfterPrint short
+read_after_print short s w f answer lt e r =
     let d = (decodes_exactly s w f).0 e in
     reads_unique s (spell short f) answer (0, w) r (a_word d.valid w (record { fits = lt; fields = f; says = d.says; short = short; spelled = refl }) d.enabled)

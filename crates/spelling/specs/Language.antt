@@ -27,8 +27,8 @@ read_says (Refused r) = (refusal_number r, 0)
 
 -- read tests 1, 11, 3
 pub data Reads (s : Settings) (t : List ℕ) : ℕ × ℕ → Type 0 where
-  bad-settings : valid_settings s ≡ false → Reads s t (1, 0)
-  not-text : valid_settings s ≡ true → ((w : ℕ) → Spells t w → ⊥) → Reads s t (11, 0)
+  bad_settings : valid_settings s ≡ false → Reads s t (1, 0)
+  not_text : valid_settings s ≡ true → ((w : ℕ) → Spells t w → ⊥) → Reads s t (11, 0)
   not_enabled : valid_settings s ≡ true → (w : ℕ) → (p : Spells t w) → enables s.features.0 p.fields ≡ false → Reads s t (3, 0)
   a_word : valid_settings s ≡ true → (w : ℕ) → (p : Spells t w) → enables s.features.0 p.fields ≡ true → Reads s t (0, w)
 

@@ -11,7 +11,7 @@ use lib.Seq.{get_or-set_same, get_or-set_other}
 use borrow.Author.Tests.{lt-ltb, ltb-true, eqb-true, eqb-false, eq-eqb, ne_eqb, not-true}
 use Rattle.laws.proofs.Tests.{both, either, never_both, by_lt}
 use Rattle.pieces.specs.Pieces.{glyph_of, decimal}
-use Rattle.pieces.proofs.Digits.{decimal_one, decimal-more, by_tens}
+use Rattle.pieces.proofs.Digits.{decimal_one, decimal_more, by_tens}
 use Rattle.syntax.specs.Syntax.{is_number, is_byte, value_in, fill, TwoDigits}
 use Rattle.syntax.specs.Scan.{is_digit, is_letter, number_of, passes_of, value_first, after, fits_first, fits, taken, ends_number, ends_first, clear, among}
 
@@ -45,22 +45,22 @@ letter_byte c m n =
     let k : is_number c ≡ true = rw (lt-ltb 64 c r.0, lt-ltb c 83 g) in
     absurd (never_both (is_number c) k n))
 
-pub number-letter : (c : ℕ) → is_number c ≡ true → is_letter c ≡ true
-number-letter c n =
+pub number_letter : (c : ℕ) → is_number c ≡ true → is_letter c ≡ true
+number_letter c n =
     let r = number_range c n in
     let g : c < 91 = omega arith in
     rw (lt-ltb 64 c r.0, lt-ltb c 91 g)
 
-byte-letter : (c : ℕ) → is_byte c ≡ true → is_letter c ≡ true
-byte-letter c b =
+byte_letter : (c : ℕ) → is_byte c ≡ true → is_letter c ≡ true
+byte_letter c b =
     let r = byte_range c b in
     let g : 64 < c = omega arith in
     rw (lt-ltb 64 c g, lt-ltb c 91 r.1)
 
-pub no-letter : (c : ℕ) → is_letter c ≡ false → (is_number c ≡ false) × (is_byte c ≡ false)
-no-letter c m = (
-  by_test (is_number c) (λ n. absurd (never_both (is_letter c) (number-letter c n) m)) (λ n. n),
-  by_test (is_byte c) (λ b. absurd (never_both (is_letter c) (byte-letter c b) m)) (λ b. b),
+pub no_letter : (c : ℕ) → is_letter c ≡ false → (is_number c ≡ false) × (is_byte c ≡ false)
+no_letter c m = (
+  by_test (is_number c) (λ n. absurd (never_both (is_letter c) (number_letter c n) m)) (λ n. n),
+  by_test (is_byte c) (λ b. absurd (never_both (is_letter c) (byte_letter c b) m)) (λ b. b),
 )
 
 pub digit_range : (c : ℕ) → is_digit c ≡ true → (47 < c) × (c < 58)
@@ -88,7 +88,7 @@ pub two_figures : (n : ℕ) → 10 ≤ n → n < 100 → ((48 + n / 10) ∷ []) 
 two_figures n l h =
     let a : n / 10 < 10 = omega arith in
     let b : n % 10 < 10 = omega arith in
-    rw (decimal-more n l, decimal_one (n / 10) a, glyph_is (n / 10) a, glyph_is (n % 10) b)
+    rw (decimal_more n l, decimal_one (n / 10) a, glyph_is (n / 10) a, glyph_is (n % 10) b)
 
 pub tens_fit : (n : ℕ) → n < 100 → 48 + n / 10 < 256
 tens_fit n h = omega arith
@@ -99,9 +99,9 @@ NumberFirst c x t =
     (number_of (get_or (decimal x ++ t) 0 0) (get_or (decimal x ++ t) 1 0) ≡ x)
     × (drop (passes_of c (get_or (decimal x ++ t) 0 0) (get_or (decimal x ++ t) 1 0)) (decimal x ++ t) ≡ t)
 
-number-first_is : (c x : ℕ) (t : List ℕ) → is_number c ≡ true → x < 100 → is_digit (get_or t 0 0) ≡ false → NumberFirst c x t
+number_first_is : (c x : ℕ) (t : List ℕ) → is_number c ≡ true → x < 100 → is_digit (get_or t 0 0) ≡ false → NumberFirst c x t
 unfolding number_of passes_of
-number-first_is c x t n h e =
+number_first_is c x t n h e =
     by_lt x 10
     (λ (l : x < 10). rw (← one_figure x l, n, figure_is x l, e) (omega arith, refl))
     (λ (l : 10 ≤ x).
@@ -119,10 +119,10 @@ ends_are c e =
     (not-true _ b.0, not-true _ b.1, not-true _ a.1)
 
 -- no digit stands first in a text whose row begins with no digit
-no-digits : (vs row : List ℕ) → ends_first row ≡ true → is_digit (get_or (fill vs row) 0 0) ≡ false
+no_digits : (vs row : List ℕ) → ends_first row ≡ true → is_digit (get_or (fill vs row) 0 0) ≡ false
 unfolding fill
-no-digits vs [] h = refl
-no-digits vs (c ∷ row) h = let p = ends_are c h in rw (p.0, p.1) p.2
+no_digits vs [] h = refl
+no_digits vs (c ∷ row) h = let p = ends_are c h in rw (p.0, p.1) p.2
 
 -- the tests of a row's first byte and of the rest
 clear_first : (c : ℕ) (row : List ℕ) → clear (c ∷ row) ≡ true → is_number c ≡ true → ends_first row ≡ true
@@ -132,33 +132,33 @@ clear_first c row h n =
     (λ m. absurd (never_both (is_number c) n (not-true _ m)))
     (λ p. p)
 
-clear-rest : (c : ℕ) (row : List ℕ) → clear (c ∷ row) ≡ true → clear row ≡ true
+clear_rest : (c : ℕ) (row : List ℕ) → clear (c ∷ row) ≡ true → clear row ≡ true
 unfolding clear
-clear-rest c row h = (both (not (is_number c) || ends_first row) (clear row) h).1
+clear_rest c row h = (both (not (is_number c) || ends_first row) (clear row) h).1
 
 -- after what the first byte of a row says, the text of the rest stands
 pub after_first : (vs : List ℕ) → TwoDigits vs → (c : ℕ) (row : List ℕ) → clear (c ∷ row) ≡ true → after c (fill vs (c ∷ row)) ≡ fill vs row
 unfolding fill passes_of
 after_first vs s c row h =
     by_test (is_number c)
-    (λ n. rw n (rw n at (number-first_is c (value_in vs c) (fill vs row) n (s c n) (no-digits vs row (clear_first c row h n))).1))
+    (λ n. rw n (rw n at (number_first_is c (value_in vs c) (fill vs row) n (s c n) (no_digits vs row (clear_first c row h n))).1))
     (λ n. rw n)
 
 -- a letter's value stands first in a text whose row begins with the letter
-value-first : (us : List ℕ) → TwoDigits us → (c : ℕ) (row : List ℕ) → clear (c ∷ row) ≡ true → is_letter c ≡ true
+value_first_lem : (us : List ℕ) → TwoDigits us → (c : ℕ) (row : List ℕ) → clear (c ∷ row) ≡ true → is_letter c ≡ true
     → value_first c (fill us (c ∷ row)) ≡ value_in us c
 unfolding fill
-value-first us s c row h m =
+value_first_lem us s c row h m =
     by_test (is_number c)
-    (λ n. rw n (number-first_is c (value_in us c) (fill us row) n (s c n) (no-digits us row (clear_first c row h n))).0)
+    (λ n. rw n (number_first_is c (value_in us c) (fill us row) n (s c n) (no_digits us row (clear_first c row h n))).0)
     (λ n. rw (n, letter_byte c m n))
 
 -- a value that is noted, and the others
 noted_here : (vs : List ℕ) (c x : ℕ) → length vs ≡ 26 → is_letter c ≡ true → value_in (set vs (c - 65) x) c ≡ x
 noted_here vs c x l m = let r = letter_range c m in get_or-set_same vs (c - 65) x 0 (omega arith)
 
-noted-there : (vs : List ℕ) (c a x : ℕ) → is_letter c ≡ true → is_letter a ≡ true → (c ≡ a → ⊥) → value_in (set vs (c - 65) x) a ≡ value_in vs a
-noted-there vs c a x m n d =
+noted_there : (vs : List ℕ) (c a x : ℕ) → is_letter c ≡ true → is_letter a ≡ true → (c ≡ a → ⊥) → value_in (set vs (c - 65) x) a ≡ value_in vs a
+noted_there vs c a x m n d =
     let r = letter_range c m in
     let q = letter_range a n in
     get_or-set_other vs (c - 65) (a - 65) x 0 (λ e. d (omega arith))
@@ -172,29 +172,29 @@ taken-fill us s a m (c ∷ row) h vs l =
     let x = value_first c (fill us (c ∷ row)) in
     by_test (is_letter c)
     (λ n.
-    let ih = taken-fill us s a m row (clear-rest c row h) (set vs (c - 65) x) (length-set vs (c - 65) x ∙ l) in
+    let ih = taken-fill us s a m row (clear_rest c row h) (set vs (c - 65) x) (length-set vs (c - 65) x ∙ l) in
     by_test (eqb c a)
     (λ e. let q : c ≡ a = eqb-true c a e in
     let v : value_in (set vs (c - 65) x) a ≡ value_in us a =
-    ap (value_in (set vs (c - 65) x)) (sym q) ∙ noted_here vs c x l n ∙ value-first us s c row h n ∙ ap (value_in us) q in
+    ap (value_in (set vs (c - 65) x)) (sym q) ∙ noted_here vs c x l n ∙ value_first_lem us s c row h n ∙ ap (value_in us) q in
     rw (n, e, after_first us s c row h) (ih ∙ rw v (same_both (among a row) (value_in us a))))
-    (λ e. rw (n, e, after_first us s c row h) (ih ∙ rw (noted-there vs c a x n m (eqb-false c a e)))))
+    (λ e. rw (n, e, after_first us s c row h) (ih ∙ rw (noted_there vs c a x n m (eqb-false c a e)))))
     (λ n.
     let d : eqb c a ≡ false = ne_eqb c a (λ (q : c ≡ a). never_both (is_letter a) m (ap is_letter (sym q) ∙ n)) in
-    rw (n, d, after_first us s c row h) (taken-fill us s a m row (clear-rest c row h) vs l))
+    rw (n, d, after_first us s c row h) (taken-fill us s a m row (clear_rest c row h) vs l))
 
 -- a text of the row fits it
-fits-first : (vs : List ℕ) (c : ℕ) (row : List ℕ) → fits_first c (fill vs (c ∷ row)) ≡ true
+fits_first_lem : (vs : List ℕ) (c : ℕ) (row : List ℕ) → fits_first c (fill vs (c ∷ row)) ≡ true
 unfolding fill
-fits-first vs c row =
+fits_first_lem vs c row =
     by_test (is_letter c)
     (λ m. rw m)
-    (λ m. let p = no-letter c m in rw (m, p.0, p.1) (eq-eqb c c refl))
+    (λ m. let p = no_letter c m in rw (m, p.0, p.1) (eq-eqb c c refl))
 
 pub fits-fill : (vs : List ℕ) → TwoDigits vs → (row : List ℕ) → clear row ≡ true → fits row (fill vs row) ≡ true
 unfolding fits
 fits-fill vs s [] h = refl
-fits-fill vs s (c ∷ row) h = rw (fits-first vs c row, after_first vs s c row h) (fits-fill vs s row (clear-rest c row h))
+fits-fill vs s (c ∷ row) h = rw (fits_first_lem vs c row, after_first vs s c row h) (fits-fill vs s row (clear_rest c row h))
 
 -- ---- rows that are apart
 
@@ -214,12 +214,12 @@ first_digit x =
     by_tens (λ (n : ℕ). (t : List ℕ) → is_digit (get_or (decimal n ++ t) 0 0) ≡ true)
     (λ (n : ℕ) (h : n < 10) (t : List ℕ). rw (decimal_one n h) (glyph_digit n h))
     (λ (n : ℕ) (h : 10 ≤ n) (k : (t : List ℕ) → is_digit (get_or (decimal (n / 10) ++ t) 0 0) ≡ true) (t : List ℕ).
-    rw (decimal-more n h, append_assoc) (k (glyph_of (n % 10) ∷ t)))
+    rw (decimal_more n h, append_assoc) (k (glyph_of (n % 10) ∷ t)))
     (suc x) x (omega arith)
 
-number-first : (vs : List ℕ) (c : ℕ) (p : List ℕ) → is_number c ≡ true → is_digit (get_or (fill vs (c ∷ p)) 0 0) ≡ true
+number_first : (vs : List ℕ) (c : ℕ) (p : List ℕ) → is_number c ≡ true → is_digit (get_or (fill vs (c ∷ p)) 0 0) ≡ true
 unfolding fill
-number-first vs c p n = rw n (first_digit (value_in vs c) (fill vs p))
+number_first vs c p n = rw n (first_digit (value_in vs c) (fill vs p))
 
 -- where two rows begin with numbers, or with bytes, texts that are equal go on equal
 same_after : (c d : ℕ) (t : List ℕ) → is_number c ≡ is_number d → after c t ≡ after d t
@@ -247,7 +247,7 @@ number_and_byte : (vs us : List ℕ) (c d : ℕ) (p q : List ℕ) → is_number 
 number_and_byte vs us c d p q n h e =
     let a = ends_are d h in
     never_both (is_digit d)
-    (ap is_digit (sym (head_is us d q a.0 a.1) ∙ ap (λ (t : List ℕ). get_or t 0 0) (sym e)) ∙ number-first vs c p n)
+    (ap is_digit (sym (head_is us d q a.0 a.1) ∙ ap (λ (t : List ℕ). get_or t 0 0) (sym e)) ∙ number_first vs c p n)
     a.2
 
 -- rows that are apart have no text in common
@@ -258,10 +258,10 @@ no_text_in_both vs us s r (c ∷ p) [] hp hq a e = never_both false a refl
 no_text_in_both vs us s r (c ∷ p) (d ∷ q) hp hq a e =
     by_test (is_number c)
     (λ n. by_test (is_number d)
-    (λ m. no_text_in_both vs us s r p q (clear-rest c p hp) (clear-rest d q hq) (rw (n, m) at a) (tails vs us s r c d p q hp hq (n ∙ sym m) e))
+    (λ m. no_text_in_both vs us s r p q (clear_rest c p hp) (clear_rest d q hq) (rw (n, m) at a) (tails vs us s r c d p q hp hq (n ∙ sym m) e))
     (λ m. number_and_byte vs us c d p q n (rw m (rw (n, m) at a)) e))
     (λ n. by_test (is_number d)
     (λ m. number_and_byte us vs d c q p m (rw n (rw (n, m) at a)) (sym e))
     (λ m. either (differ c d) (apart p q) (rw (n, m) at a)
     (λ f. heads vs us c d p q n m f e)
-    (λ f. no_text_in_both vs us s r p q (clear-rest c p hp) (clear-rest d q hq) f (tails vs us s r c d p q hp hq (n ∙ sym m) e))))
+    (λ f. no_text_in_both vs us s r p q (clear_rest c p hp) (clear_rest d q hq) f (tails vs us s r c d p q hp hq (n ∙ sym m) e))))

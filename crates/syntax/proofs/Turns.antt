@@ -13,7 +13,7 @@ use Rattle.pieces.specs.Pieces.{decimal, Wrote}
 use Rattle.pieces.proofs.Pieces.{and_then, said, nothing}
 use Rattle.syntax.specs.Syntax.{is_number, value_in, says, fill, TwoDigits}
 use Rattle.syntax.specs.Scan.{says_of, is_letter, value_of, passes_of, after, fits_of, fits_first, fits, noted_of, noted, taken}
-use Rattle.syntax.proofs.Laws.{by_test, letter_byte, number-letter, no-letter, one_figure, two_figures}
+use Rattle.syntax.proofs.Laws.{by_test, letter_byte, number_letter, no_letter, one_figure, two_figures}
 
 -- ---- a row is written
 
@@ -54,7 +54,7 @@ abbrev ValueIn : List ℕ → ℕ → ℕ → Type 0
 ValueIn vs c v = v ≡ cond (is_letter c) (value_in vs c) c
 
 number_in : (vs : List ℕ) (c v : ℕ) → ValueIn vs c v → is_number c ≡ true → v ≡ value_in vs c
-number_in vs c v e n = e ∙ rw (number-letter c n)
+number_in vs c v e n = e ∙ rw (number_letter c n)
 
 pub number_small : (vs : List ℕ) (c v : ℕ) → TwoDigits vs → ValueIn vs c v → is_number c ≡ true → v < 100
 number_small vs c v s e n = omega (arith, number_in vs c v e n, s c n)
@@ -63,7 +63,7 @@ pub says_of_lem : (vs : List ℕ) (c v : ℕ) → ValueIn vs c v → says_of c v
 says_of_lem vs c v e =
     by_test (is_number c)
     (λ n. rw n (ap decimal (number_in vs c v e n)))
-    (λ n. by_test (is_letter c) (λ m. rw (e, m, n, letter_byte c m n)) (λ m. rw (e, m, n, (no-letter c m).1)))
+    (λ n. by_test (is_letter c) (λ m. rw (e, m, n, letter_byte c m n)) (λ m. rw (e, m, n, (no_letter c m).1)))
 
 -- ---- a byte of a row is written
 
@@ -130,7 +130,7 @@ pub same_byte : (row text vs : List ℕ) (i at a : ℕ) → i < length row → a
     × (taken (drop i row) (drop at text) vs ≡ taken (drop (i + 1) row) (drop (at + 1) text) vs)
 unfolding passes_of
 same_byte row text vs i at a h x m e =
-    goes_on row text vs vs i at a (get_or text (at + 1) 0) 1 h x refl (rw (m, eq-eqb a (get_or row i 0) e)) (rw m) (rw (no-letter (get_or row i 0) m).0)
+    goes_on row text vs vs i at a (get_or text (at + 1) 0) 1 h x refl (rw (m, eq-eqb a (get_or row i 0) e)) (rw m) (rw (no_letter (get_or row i 0) m).0)
 
 pub letter-taken : (row text vs us : List ℕ) (i at a b v n : ℕ) → i < length row → a ≡ get_or text at 0 → b ≡ get_or text (at + 1) 0
     → is_letter (get_or row i 0) ≡ true → v ≡ value_of (get_or row i 0) a b → us ≡ set vs (get_or row i 0 - 65) v → n ≡ passes_of (get_or row i 0) a b

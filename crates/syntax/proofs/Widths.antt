@@ -28,10 +28,10 @@ short x false h =
     (λ (l : x < 10). let e = ap length (one_figure x l) in omega (arith, e))
     (λ (l : 10 ≤ x). let e = ap length (two_figures x l h) in omega (arith, e))
 
-says-width : (one : ℕ → Bool) (vs : List ℕ) → Narrow one vs → (c : ℕ) → length (says vs c) ≤ width_of one c
-says-width one vs n c = by_test (is_number c) (λ e. rw e (short (value_in vs c) (one c) (n c e))) (λ e. rw e (omega arith))
+says_width : (one : ℕ → Bool) (vs : List ℕ) → Narrow one vs → (c : ℕ) → length (says vs c) ≤ width_of one c
+says_width one vs n c = by_test (is_number c) (λ e. rw e (short (value_in vs c) (one c) (n c e))) (λ e. rw e (omega arith))
 
 pub length-fill : (one : ℕ → Bool) (vs : List ℕ) → Narrow one vs → (row : List ℕ) → length (fill vs row) ≤ width one row
 unfolding fill width
 length-fill one vs n [] = omega arith
-length-fill one vs n (c ∷ row) = simp length-append (omega (arith, says-width one vs n c, length-fill one vs n row))
+length-fill one vs n (c ∷ row) = simp length-append (omega (arith, says_width one vs n c, length-fill one vs n row))

@@ -8,7 +8,7 @@ use borrow.Author.Tests.{ne_eqb}
 use Rattle.laws.proofs.Tests.{never_both, by_cond}
 use Rattle.settings.specs.Valid.{valid_settings}
 use Rattle.settings.specs.declared.Settings.{Settings}
-use Rattle.settings.proofs.Refusals.{refused-not_0, refused_known}
+use Rattle.settings.proofs.Refusals.{refused_not_0, refused_known}
 use Rattle.words.specs.Says.{Described, As, Nothing, table, describe, SaidBy}
 use Rattle.words.specs.Decode.{enables, no_fields, decoded_says, enabled_only, decode_enabled, decode_paper}
 use Rattle.words.specs.Kinds.{fields_as, says_as, family_as, enables_said}
@@ -23,15 +23,15 @@ use Rattle.words.specs.declared.Decoded.TheVariants.{Word, Refused}
 use Rattle.words.specs.declared.Partnered as partnered
 use Rattle.words.specs.declared.Partnered.TheVariants.{Word as Partner, Refused as NotPartnered}
 use Rattle.words.proofs.Table.{described_exactly}
-use Rattle.words.proofs.ByKind.{family_as_lem, kind-refused, kind_enabled}
-use Rattle.words.proofs.Partners.{partner-turned, partner-back, partner_sign}
+use Rattle.words.proofs.ByKind.{family_as_lem, kind_refused, kind_enabled}
+use Rattle.words.proofs.Partners.{partner-turned, partner_back, partner_sign}
 
 -- ---- each answer is determined by its promise
 
 decoded_known : (r q : Decoded) → decoded_says r ≡ decoded_says q → r ≡ q
 decoded_known (Word f) (Word g) e = ap Word (ap (λ (p : ℕ × Fields). p.1) e)
-decoded_known (Word f) (Refused q) e = absurd (refused-not_0 q no_fields f (sym e))
-decoded_known (Refused r) (Word g) e = absurd (refused-not_0 r no_fields g e)
+decoded_known (Word f) (Refused q) e = absurd (refused_not_0 q no_fields f (sym e))
+decoded_known (Refused r) (Word g) e = absurd (refused_not_0 r no_fields g e)
 decoded_known (Refused r) (Refused q) e = ap Refused (refused_known r q no_fields no_fields e)
 
 -- any two answers that decode's promise allows are equal
@@ -40,8 +40,8 @@ decode_unique s w r q e g = decoded_known r q (e ∙ sym g)
 
 partnered_known : (r q : partnered.Partnered) → partnered_says r ≡ partnered_says q → r ≡ q
 partnered_known (Partner v) (Partner w) e = ap Partner (ap (λ (p : ℕ × ℕ). p.1) e)
-partnered_known (Partner v) (NotPartnered q) e = absurd (refused-not_0 {A = ℕ} q 0 v (sym e))
-partnered_known (NotPartnered r) (Partner w) e = absurd (refused-not_0 {A = ℕ} r 0 w e)
+partnered_known (Partner v) (NotPartnered q) e = absurd (refused_not_0 {A = ℕ} q 0 v (sym e))
+partnered_known (NotPartnered r) (Partner w) e = absurd (refused_not_0 {A = ℕ} r 0 w e)
 partnered_known (NotPartnered r) (NotPartnered q) e = ap NotPartnered (refused_known {A = ℕ} r q 0 0 e)
 
 -- any two answers that partner's promise allows are equal
@@ -57,18 +57,18 @@ pub record Accepted (s : Settings) (w : ℕ) (f : Fields) : Type 0 where
   pub enabled : enables s.features.0 f ≡ true
 
 -- an accepted word says the fields, and the features enable it
-enabled-says : (features : ℕ) (d : Described) (f : Fields) → enabled_only features d ≡ (0, f) → (d ≡ As f) × (enables features f ≡ true)
-enabled-says features (As g) f =
+enabled_says : (features : ℕ) (d : Described) (f : Fields) → enabled_only features d ≡ (0, f) → (d ≡ As f) × (enables features f ≡ true)
+enabled_says features (As g) f =
     by_cond (enables features g) (0, g) (3, no_fields) (0, f)
     (λ t e. let h : g ≡ f = ap (λ (p : ℕ × Fields). p.1) e in (ap As h, subst (λ (x : Fields). enables features x ≡ true) h t))
     (λ _ e. let z : ◌≡◌ {A = ℕ} 3 0 = ap (λ (p : ℕ × Fields). p.0) e in absurd (omega arith))
-enabled-says features Nothing f = λ e. let z : ◌≡◌ {A = ℕ} 3 0 = ap (λ (p : ℕ × Fields). p.0) e in absurd (omega arith)
+enabled_says features Nothing f = λ e. let z : ◌≡◌ {A = ℕ} 3 0 = ap (λ (p : ℕ × Fields). p.0) e in absurd (omega arith)
 
 decode_accepted : (s : Settings) (w : ℕ) (f : Fields) → decode_paper s w ≡ (0, f) → Accepted s w f
 unfolding decode_paper decode_enabled
 decode_accepted s w f =
     by_cond (valid_settings s) (enabled_only s.features.0 (describe w)) (1, no_fields) (0, f)
-    (λ v e. let a = enabled-says s.features.0 (describe w) f e in record { valid = v; says = a.0; enabled = a.1 })
+    (λ v e. let a = enabled_says s.features.0 (describe w) f e in record { valid = v; says = a.0; enabled = a.1 })
     (λ _ e. let z : ◌≡◌ {A = ℕ} 1 0 = ap (λ (p : ℕ × Fields). p.0) e in absurd (omega arith))
 
 accepted_decode : (s : Settings) (w : ℕ) (f : Fields) → Accepted s w f → decode_paper s w ≡ (0, f)
@@ -95,23 +95,23 @@ partner_is s w f e =
     let a = decode_accepted s w f e in
     rw (e, partner_sign w f a.says)
 
-partner-refused : (s : Settings) (w n : ℕ) → decode_paper s w ≡ (n, no_fields) → 0 < n → partner_paper s w ≡ (n, 0)
+partner_refused : (s : Settings) (w n : ℕ) → decode_paper s w ≡ (n, no_fields) → 0 < n → partner_paper s w ≡ (n, 0)
 unfolding partner_paper
-partner-refused s w n e h = rw (e, ne_eqb n 0 (λ z. omega arith))
+partner_refused s w n e h = rw (e, ne_eqb n 0 (λ z. omega arith))
 
 -- what the code of partner answers: 1, or by the word's kind 3 or what the kind's family says
-pub partner-not_valid : (s : Settings) (w : ℕ) → valid_settings s ≡ false → partner_paper s w ≡ (1, 0)
+pub partner_not_valid : (s : Settings) (w : ℕ) → valid_settings s ≡ false → partner_paper s w ≡ (1, 0)
 unfolding decode_paper
-partner-not_valid s w v = partner-refused s w 1 (rw v) (omega arith)
+partner_not_valid s w v = partner_refused s w 1 (rw v) (omega arith)
 
 module _ (s : Settings) (w : ℕ) (k : Kind) (v : valid_settings s ≡ true) (e : describe w ≡ says_as k w) where
-  pub partner-not_enabled : enables_said s.features.0 (says_as k w) ≡ false → partner_paper s w ≡ (3, 0)
+  pub partner_not_enabled : enables_said s.features.0 (says_as k w) ≡ false → partner_paper s w ≡ (3, 0)
   unfolding decode_paper
-  partner-not_enabled h = partner-refused s w 3 (rw v (kind-refused s.features.0 w k e h)) (omega arith)
+  partner_not_enabled h = partner_refused s w 3 (rw v (kind_refused s.features.0 w k e h)) (omega arith)
 
-  pub partner-by_kind : enables_said s.features.0 (says_as k w) ≡ true → partner_paper s w ≡ partner_in (family_as k) w
+  pub partner_by_kind : enables_said s.features.0 (says_as k w) ≡ true → partner_paper s w ≡ partner_in (family_as k) w
   unfolding decode_paper
-  partner-by_kind h =
+  partner_by_kind h =
       partner_is s w (fields_as k w) (rw v (kind_enabled s.features.0 w k e h)) ∙ ap (λ (family : Family). partner_in family w) (family_as_lem k w)
 
 -- the test for C passes for C alone
@@ -141,4 +141,4 @@ unfolding partner_paper turned
 partner_accepted s w f e c =
     let a = decode_accepted s w f e in
     let d : decode_paper s (partner_word w) ≡ (0, turned f) = accepted_decode s (partner_word w) (turned f) (record { valid = a.valid; says = partner-turned w f a.says; enabled = enables-turned s.features.0 f ∙ a.enabled }) in
-    (rw (e, c), record { decodes = d; back = rw (d, c, partner-back w f a.says) })
+    (rw (e, c), record { decodes = d; back = rw (d, c, partner_back w f a.says) })

@@ -23,8 +23,8 @@ module _ (w : ℕ) (h : w < 2 ^ 32) where
   pub only_c : w / 16777216 ≡ 0b01000100 → says_first (table_c ++ table_za) w ≡ says_first table_c w
   only_c e = let n : w / 16777216 ≢ 0b11000001 = λ z. omega arith in rw (other_top row_d2 w refl h n, other_top row_d4 w refl h n, other_top row_e2 w refl h n, other_top row_e4 w refl h n)
 
-  pub only-za : w / 16777216 ≡ 0b11000001 → says_first (table_c ++ table_za) w ≡ says_first table_za w
-  only-za e = let n : w / 16777216 ≢ 0b01000100 = λ z. omega arith in rw (other_top row_c16 w refl h n, other_top row_c32 w refl h n)
+  pub only_za : w / 16777216 ≡ 0b11000001 → says_first (table_c ++ table_za) w ≡ says_first table_za w
+  only_za e = let n : w / 16777216 ≢ 0b01000100 = λ z. omega arith in rw (other_top row_c16 w refl h n, other_top row_c32 w refl h n)
 
   pub no_row : w / 16777216 ≢ 0b01000100 → w / 16777216 ≢ 0b11000001 → says_first (table_c ++ table_za) w ≡ Nothing
   no_row n m = rw (other_top row_c16 w refl h n, other_top row_c32 w refl h n, other_top row_d2 w refl h m, other_top row_d4 w refl h m, other_top row_e2 w refl h m, other_top row_e4 w refl h m)
@@ -75,8 +75,8 @@ some_lane : (l : ℕ) → (l ≡ 8) ⊎ ((l ≡ 16) ⊎ (l ≡ 32)) → 0 < l
 some_lane = one_of_three (λ l. 0 < l) 8 16 32 (omega arith) (omega arith) (omega arith)
 
 -- no word says the zeros of a refusal
-pub says-zeros : (w : ℕ) → describe w ≡ As no_fields → ⊥
-says-zeros w e = let p : 0 < 0 = some_lane 0 (in_range w no_fields e).lane in omega arith
+pub says_zeros : (w : ℕ) → describe w ≡ As no_fields → ⊥
+says_zeros w e = let p : 0 < 0 = some_lane 0 (in_range w no_fields e).lane in omega arith
 
 -- an enabled word of a kind says the kind's fields
 enabled_said : (features : ℕ) (d : Described) → enables_said features d ≡ true → d ≡ As (fields_said d)
@@ -93,9 +93,9 @@ answer_enabled : (features : ℕ) (d : Described) → enables_said features d �
 answer_enabled features (As f) h = rw h
 answer_enabled features Nothing h = refl
 
-answer-refused : (features : ℕ) (d : Described) → enables_said features d ≡ false → enabled_only features d ≡ (3, no_fields)
-answer-refused features (As f) h = rw h
-answer-refused features Nothing h = refl
+answer_refused : (features : ℕ) (d : Described) → enables_said features d ≡ false → enabled_only features d ≡ (3, no_fields)
+answer_refused features (As f) h = rw h
+answer_refused features Nothing h = refl
 
 -- w is of kind k: what `kind_of` ensures; then by what `enables_kind` ensures
 module _ (features w : ℕ) (k : Kind) (e : describe w ≡ says_as k w) where
@@ -103,13 +103,13 @@ module _ (features w : ℕ) (k : Kind) (e : describe w ≡ says_as k w) where
   unfolding decode_enabled
   kind_answer h = rw e (answer_enabled features (says_as k w) h)
 
-  pub kind-refused : enables_said features (says_as k w) ≡ false → decode_enabled features w ≡ (3, no_fields)
+  pub kind_refused : enables_said features (says_as k w) ≡ false → decode_enabled features w ≡ (3, no_fields)
   unfolding decode_enabled
-  kind-refused h = rw e (answer-refused features (says_as k w) h)
+  kind_refused h = rw e (answer_refused features (says_as k w) h)
 
   -- what `fields_of` requires
-  pub kind-says : enables_said features (says_as k w) ≡ true → describe w ≡ As (fields_as k w)
-  kind-says h = e ∙ enabled_as features k w h
+  pub kind_says : enables_said features (says_as k w) ≡ true → describe w ≡ As (fields_as k w)
+  kind_says h = e ∙ enabled_as features k w h
 
   pub kind_enabled : enables_said features (says_as k w) ≡ true → decode_enabled features w ≡ (0, fields_as k w)
   kind_enabled h = kind_answer h ∙ ap answer_to (enabled_as features k w h)

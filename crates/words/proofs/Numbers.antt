@@ -18,15 +18,15 @@ family_range Saturating = omega arith
 family_range LongLong = omega arith
 family_range Long = omega arith
 
-pub family-back : (a : Family) → family_of (family_number a) ≡ a
-family-back ByElement = refl
-family-back Vector = refl
-family-back Saturating = refl
-family-back LongLong = refl
-family-back Long = refl
+pub family_back : (a : Family) → family_of (family_number a) ≡ a
+family_back ByElement = refl
+family_back Vector = refl
+family_back Saturating = refl
+family_back LongLong = refl
+family_back Long = refl
 
 pub family_eq : (a b : Family) → family_number a ≡ family_number b → a ≡ b
-family_eq a b e = sym (family-back a) ∙ ap family_of e ∙ family-back b
+family_eq a b e = sym (family_back a) ∙ ap family_of e ∙ family_back b
 
 pub number_family : (n : ℕ) → 1 ≤ n → n ≤ 5 → family_number (family_of n) ≡ n
 number_family zero p q = absurd (omega arith)
@@ -43,9 +43,9 @@ pub bit_range : (b : Bool) → bit_of b ≤ 1
 bit_range true = omega arith
 bit_range false = omega arith
 
-pub bit-back : (b : Bool) → is_one (bit_of b) ≡ b
-bit-back true = refl
-bit-back false = refl
+pub bit_back : (b : Bool) → is_one (bit_of b) ≡ b
+bit_back true = refl
+bit_back false = refl
 
 pub number_bit : (n : ℕ) → n ≤ 1 → bit_of (is_one n) ≡ n
 number_bit n h = one_bit (λ x. bit_of (is_one x) ≡ x) refl refl n (omega arith)

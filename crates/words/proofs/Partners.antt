@@ -8,7 +8,7 @@ use lib.Dec.{lit<}
 use Rattle.laws.proofs.Lists.{each_of}
 use Rattle.laws.proofs.Bits.{xor_twice}
 use Rattle.layouts.specs.Layout.{value, flip, mask_of}
-use Rattle.layouts.proofs.Flipped.{matches-flipped}
+use Rattle.layouts.proofs.Flipped.{matches_flipped}
 use Rattle.words.specs.Says.{As, table, describe, SaidBy}
 use Rattle.words.specs.Partner.{partner_word, turned}
 use Rattle.words.specs.Sign.{sign_of}
@@ -45,7 +45,7 @@ module _ (w : ℕ) (f : Fields) (e : describe w ≡ As f) where
       record {
         row = said.row;
         listed = said.listed;
-        matching = matches-flipped said.row.layout "S" w ∙ said.matching;
+        matching = matches_flipped said.row.layout "S" w ∙ said.matching;
         open_size = flipped_reserved said.row turns w ∙ said.open_size;
         fields = flipped-fields said.row turns w ∙ ap turned said.fields;
       }
@@ -55,9 +55,9 @@ module _ (w : ℕ) (f : Fields) (e : describe w ≡ As f) where
   partner-turned = ap describe (flipped_in w f said) ∙ (described_exactly flipped (turned f)).1 flipped_said
 
   -- partner is its own inverse
-  pub partner-back : partner_word (partner_word w) ≡ w
+  pub partner_back : partner_word (partner_word w) ≡ w
   unfolding flipped_said
-  partner-back = ap partner_word (flipped_in w f said) ∙ flipped_in flipped (turned f) flipped_said ∙ xor_twice w mask
+  partner_back = ap partner_word (flipped_in w f said) ∙ flipped_in flipped (turned f) flipped_said ∙ xor_twice w mask
 
   -- where the code finds S
   pub partner_sign : partner_word w ≡ bit_xor w (sign_of f.family)
@@ -66,5 +66,5 @@ module _ (w : ℕ) (f : Fields) (e : describe w ≡ As f) where
       ∙ ap (bit_xor w) (turns.mask ∙ ap sign_of (sym (turns.of_family (value said.row.layout w)) ∙ ap (λ (g : Fields). g.family) said.fields))
 
   -- the partner of a word of 32 bits has 32 bits
-  pub partner-fits : w < 2 ^ 32 → partner_word w < 2 ^ 32
-  partner-fits h = rw partner_sign (xor_lt 32 w (sign_of f.family) h (sign_fits f.family))
+  pub partner_fits : w < 2 ^ 32 → partner_word w < 2 ^ 32
+  partner_fits h = rw partner_sign (xor_lt 32 w (sign_of f.family) h (sign_fits f.family))

@@ -32,11 +32,11 @@ by_size P a b c (suc (suc zero)) h e = c
 by_size P a b c (suc (suc (suc zero))) h e = absurd (eqb-false 3 3 e refl)
 by_size P a b c (suc (suc (suc (suc s)))) h e = absurd (omega arith)
 
-b-lane : (s : ℕ) → s < 4 → eqb s 3 ≡ false → (8 * 2 ^ s ≡ 8) ⊎ ((8 * 2 ^ s ≡ 16) ⊎ (8 * 2 ^ s ≡ 32))
-b-lane = by_size (λ s. (8 * 2 ^ s ≡ 8) ⊎ ((8 * 2 ^ s ≡ 16) ⊎ (8 * 2 ^ s ≡ 32))) (inl refl) (inr (inl refl)) (inr (inr refl))
+b_lane : (s : ℕ) → s < 4 → eqb s 3 ≡ false → (8 * 2 ^ s ≡ 8) ⊎ ((8 * 2 ^ s ≡ 16) ⊎ (8 * 2 ^ s ≡ 32))
+b_lane = by_size (λ s. (8 * 2 ^ s ≡ 8) ⊎ ((8 * 2 ^ s ≡ 16) ⊎ (8 * 2 ^ s ≡ 32))) (inl refl) (inr (inl refl)) (inr (inr refl))
 
-d-lane : (z : ℕ) → z < 2 → (8 + 8 * z ≡ 8) ⊎ (8 + 8 * z ≡ 16)
-d-lane = one_bit (λ z. (8 + 8 * z ≡ 8) ⊎ (8 + 8 * z ≡ 16)) (inl refl) (inr refl)
+d_lane : (z : ℕ) → z < 2 → (8 + 8 * z ≡ 8) ⊎ (8 + 8 * z ≡ 16)
+d_lane = one_bit (λ z. (8 + 8 * z ≡ 8) ⊎ (8 + 8 * z ≡ 16)) (inl refl) (inr refl)
 
 wider : {n : ℕ} → (n ≡ 8) ⊎ (n ≡ 16) → (n ≡ 8) ⊎ ((n ≡ 16) ⊎ (n ≡ 32))
 wider (inl e) = inl e
@@ -45,10 +45,10 @@ wider (inr e) = inr (inl e)
 -- the fields of a described word are in range, row by row
 pub in_range : (w : ℕ) (f : Fields) → describe w ≡ As f → Ranges f
 in_range w f =
-    let d = d-lane (value row_d2 w "z") (omega arith) in
+    let d = d_lane (value row_d2 w "z") (omega arith) in
     said_each Ranges w f
     ((λ _ _. cond-holds Ranges (eqb (value row_a w "s") 0b01) _ _ (λ _. ranges (inr (inl refl)) (omega arith) refl) (λ _. ranges (inr (inr refl)) (omega arith) refl))
-    then (λ _ o. ranges (b-lane (value row_b w "s") (omega arith) o) (omega arith) refl)
+    then (λ _ o. ranges (b_lane (value row_b w "s") (omega arith) o) (omega arith) refl)
     then (λ _ _. ranges (inr (inl refl)) (omega arith) (refl, inl refl))
     then (λ _ _. ranges (inr (inr refl)) (omega arith) (refl, inr refl))
     then (λ _ _. ranges (wider d) (omega arith) (inl refl, d, omega arith, omega arith, omega arith))

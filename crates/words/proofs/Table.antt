@@ -11,7 +11,7 @@ use Rattle.laws.specs.Lists.{Each}
 use Rattle.laws.proofs.Lists.{each_of}
 use Rattle.laws.proofs.Tests.{both, failed, by_cond}
 use Rattle.layouts.specs.Layout.{Layout, size, matches, value, flip}
-use Rattle.layouts.proofs.Apart.{apart, apart_from, all_apart, no-word_in_both}
+use Rattle.layouts.proofs.Apart.{apart, apart_from, all_apart, no_word_in_both}
 use Rattle.words.specs.Says.{As, Nothing, Row, table, says_of, says_first, describe, SaidBy}
 use Rattle.words.specs.Partner.{flip_first, partner_word}
 use Rattle.words.specs.declared.Fields.{Fields}
@@ -26,8 +26,8 @@ layouts [] = []
 layouts (r ∷ rs) = r.layout ∷ layouts rs
 
 -- the whole of it: each two layouts of the table fix some bit differently
-table-apart : all_apart (layouts table) ≡ true
-table-apart = refl
+table_apart : all_apart (layouts table) ≡ true
+table_apart = refl
 
 -- each row of the table is 32 bits wide
 pub table_32 : map size (layouts table) ≡ 32 ∷ 32 ∷ 32 ∷ 32 ∷ 32 ∷ 32 ∷ 32 ∷ 32 ∷ []
@@ -39,7 +39,7 @@ apart_from_lem r q [] w a m p h = Memᴰ.not-nil m
 apart_from_lem r q (x ∷ rs) w a m p h =
     let b = both (apart r.layout x.layout 32) (apart_from r.layout (layouts rs)) a in
     ⊎_elim
-    (λ e. no-word_in_both r.layout x.layout 32 w b.0 p (subst (λ (y : Row). matches y.layout w ≡ true) e h))
+    (λ e. no_word_in_both r.layout x.layout 32 w b.0 p (subst (λ (y : Row). matches y.layout w ≡ true) e h))
     (λ n. apart_from_lem r q rs w b.1 n p h)
     (Memᴰ.cases_cons m)
 
@@ -59,8 +59,8 @@ one_of (x ∷ rs) a r q w m n p h =
     (Memᴰ.cases_cons m)
 
 -- no word matches two rows
-pub one-row : (r q : Row) (w : ℕ) → Memᴰ r table → Memᴰ q table → matches r.layout w ≡ true → matches q.layout w ≡ true → r ≡ q
-one-row = one_of table table-apart
+pub one_row : (r q : Row) (w : ℕ) → Memᴰ r table → Memᴰ q table → matches r.layout w ≡ true → matches q.layout w ≡ true → r ≡ q
+one_row = one_of table table_apart
 
 -- what a description says is one thing, and is not nothing
 found : (g f : Fields) → As g ≡ As f → g ≡ f
@@ -81,10 +81,10 @@ first_said (r ∷ rs) w f =
     record { row = s.row; listed = Memᴰ.tail s.listed; matching = s.matching; open_size = s.open_size; fields = s.fields })
 
 -- the row that matches is the first that does, as no other matches: it says what is said, and its S is the one that is flipped
-first-row : (rs : List Row) → all_apart (layouts rs) ≡ true → (r : Row) (w : ℕ) → Memᴰ r rs → matches r.layout w ≡ true
+first_row : (rs : List Row) → all_apart (layouts rs) ≡ true → (r : Row) (w : ℕ) → Memᴰ r rs → matches r.layout w ≡ true
     → (says_first rs w ≡ says_of r w) × (flip_first rs w ≡ flip r.layout "S" w)
-first-row [] a r w i m = absurd (Memᴰ.not-nil i)
-first-row (x ∷ rs) a r w i m =
+first_row [] a r w i m = absurd (Memᴰ.not-nil i)
+first_row (x ∷ rs) a r w i m =
     let b = both (apart_from x.layout (layouts rs)) (all_apart (layouts rs)) a in
     ⊎_elim
     (λ (e : r ≡ x).
@@ -92,23 +92,23 @@ first-row (x ∷ rs) a r w i m =
     subst (λ (y : Row). (says_first (x ∷ rs) w ≡ says_of y w) × (flip_first (x ∷ rs) w ≡ flip y.layout "S" w)) (sym e) (rw h, rw h))
     (λ (n : Memᴰ r rs).
     let h : matches x.layout w ≡ false = failed (matches x.layout w) (λ p. apart_from_lem x r rs w b.0 n p m) in
-    let l = first-row rs b.1 r w n m in
+    let l = first_row rs b.1 r w n m in
     (rw h l.0, rw h l.1))
     (Memᴰ.cases_cons i)
 
 module _ (w : ℕ) (f : Fields) (s : SaidBy table w f) where
-  said-first : says_first table w ≡ As f
-  said-first = (first-row table table-apart s.row w s.listed s.matching).0 ∙ rw s.open_size (ap As s.fields)
+  said_first : says_first table w ≡ As f
+  said_first = (first_row table table_apart s.row w s.listed s.matching).0 ∙ rw s.open_size (ap As s.fields)
 
   -- its partner has the S of that row flipped
   pub flipped_in : partner_word w ≡ flip s.row.layout "S" w
   unfolding partner_word
-  flipped_in = (first-row table table-apart s.row w s.listed s.matching).1
+  flipped_in = (first_row table table_apart s.row w s.listed s.matching).1
 
 -- a word is described exactly when a row matches and its size is not reserved
 pub described_exactly : (w : ℕ) (f : Fields) → (describe w ≡ As f) ↔ SaidBy table w f
 unfolding describe
-described_exactly w f = (first_said table w f, said-first w f)
+described_exactly w f = (first_said table w f, said_first w f)
 
 -- P holds of what the row says of w, where it says anything
 abbrev pub WhereSaid : (Fields → Type 0) → ℕ → Row → Type 0

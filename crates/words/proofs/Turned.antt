@@ -11,14 +11,14 @@ use Rattle.laws.specs.Lists.{Each}
 use Rattle.laws.proofs.Bits.{one_bit}
 use Rattle.laws.proofs.Tests.{cond-holds}
 use Rattle.layouts.specs.Layout.{Letters, part, value, mask_of, flip}
-use Rattle.layouts.proofs.Flipped.{others-kept, one-flipped}
+use Rattle.layouts.proofs.Flipped.{others_kept, one_flipped}
 use Rattle.words.specs.Numbers.{bit_of}
 use Rattle.words.specs.Says.{Row, table, fields_a16, fields_a32, is_one}
 use Rattle.words.specs.Partner.{turned}
 use Rattle.words.specs.Sign.{sign_at, sign_of}
 use Rattle.words.specs.declared.Family.{Family}
 use Rattle.words.specs.declared.Family.TheVariants.{ByElement, Vector, Saturating, LongLong, Long}
-use Rattle.words.proofs.Numbers.{bit-back}
+use Rattle.words.proofs.Numbers.{bit_back}
 use Rattle.words.proofs.Table.{◌then◌}
 
 -- the letters with S the other bit
@@ -42,30 +42,30 @@ other_bit = one_bit (λ b. bit_xor b 1 ≡ bit_of (not (is_one b))) refl refl
 module _ (r : Row) (t : Turns r) (w : ℕ) where
   flipped_s : value r.layout (flip r.layout "S" w) "S" ≡ bit_of (not (is_one (value r.layout w "S")))
   flipped_s =
-      one-flipped r.layout "S" (sign_at t.family) w t.s_at t.mask
+      one_flipped r.layout "S" (sign_at t.family) w t.s_at t.mask
       ∙ other_bit (value r.layout w "S") (rw (t.s_at w) (omega arith))
 
-  flipped-letter : (a : Char) → value r.layout (flip r.layout "S" w) a ≡ other_s (value r.layout w) a
-  flipped-letter a =
+  flipped_letter : (a : Char) → value r.layout (flip r.layout "S" w) a ≡ other_s (value r.layout w) a
+  flipped_letter a =
       cond-holds (λ (n : ℕ). value r.layout (flip r.layout "S" w) a ≡ n) (eqb (code "S") (code a)) _ _
       (λ e. rw (← eqb-true (code "S") (code a) e) flipped_s)
-      (λ e. others-kept r.layout "S" a w (eqb-false _ _ e))
+      (λ e. others_kept r.layout "S" a w (eqb-false _ _ e))
 
   -- a word with S flipped has the same letters, but for S
-  flipped-letters : value r.layout (flip r.layout "S" w) ≡ other_s (value r.layout w)
-  flipped-letters = λ i a. flipped-letter a i
+  flipped_letters : value r.layout (flip r.layout "S" w) ≡ other_s (value r.layout w)
+  flipped_letters = λ i a. flipped_letter a i
 
   pub flipped_reserved : r.reserved (value r.layout (flip r.layout "S" w)) ≡ r.reserved (value r.layout w)
-  flipped_reserved = ap r.reserved flipped-letters ∙ t.size_kept (value r.layout w)
+  flipped_reserved = ap r.reserved flipped_letters ∙ t.size_kept (value r.layout w)
 
   pub flipped-fields : r.fields (value r.layout (flip r.layout "S" w)) ≡ turned (r.fields (value r.layout w))
-  flipped-fields = ap r.fields flipped-letters ∙ t.fields_turned (value r.layout w)
+  flipped-fields = ap r.fields flipped_letters ∙ t.fields_turned (value r.layout w)
 
 -- ---- the rows
 
 module _ (v : Letters) where
-  s-back : is_one (bit_of (not (is_one (v "S")))) ≡ not (is_one (v "S"))
-  s-back = bit-back (not (is_one (v "S")))
+  s_back : is_one (bit_of (not (is_one (v "S")))) ≡ not (is_one (v "S"))
+  s_back = bit_back (not (is_one (v "S")))
 
   -- A, by its size
   family_a : (b : Bool) → (cond b (fields_a16 v) (fields_a32 v)).family ≡ ByElement
@@ -84,12 +84,12 @@ turns family s m f z k = record { family = family; s_at = s; mask = m; of_family
 pub table_turns : Each Turns table
 unfolding turned
 table_turns =
-    turns ByElement (λ w. refl) refl (λ v. family_a v (eqb (v "s") 0b01)) (λ v. refl) (λ v. rw (s-back v) (turned_a v (eqb (v "s") 0b01)))
-    then turns Vector (λ w. refl) refl (λ v. refl) (λ v. refl) (λ v. rw (s-back v))
-    then turns Saturating (λ w. refl) refl (λ v. refl) (λ v. refl) (λ v. rw (s-back v))
-    then turns Saturating (λ w. refl) refl (λ v. refl) (λ v. refl) (λ v. rw (s-back v))
-    then turns LongLong (λ w. refl) refl (λ v. refl) (λ v. refl) (λ v. rw (s-back v))
-    then turns LongLong (λ w. refl) refl (λ v. refl) (λ v. refl) (λ v. rw (s-back v))
-    then turns Long (λ w. refl) refl (λ v. refl) (λ v. refl) (λ v. rw (s-back v))
-    then turns Long (λ w. refl) refl (λ v. refl) (λ v. refl) (λ v. rw (s-back v))
+    turns ByElement (λ w. refl) refl (λ v. family_a v (eqb (v "s") 0b01)) (λ v. refl) (λ v. rw (s_back v) (turned_a v (eqb (v "s") 0b01)))
+    then turns Vector (λ w. refl) refl (λ v. refl) (λ v. refl) (λ v. rw (s_back v))
+    then turns Saturating (λ w. refl) refl (λ v. refl) (λ v. refl) (λ v. rw (s_back v))
+    then turns Saturating (λ w. refl) refl (λ v. refl) (λ v. refl) (λ v. rw (s_back v))
+    then turns LongLong (λ w. refl) refl (λ v. refl) (λ v. refl) (λ v. rw (s_back v))
+    then turns LongLong (λ w. refl) refl (λ v. refl) (λ v. refl) (λ v. rw (s_back v))
+    then turns Long (λ w. refl) refl (λ v. refl) (λ v. refl) (λ v. rw (s_back v))
+    then turns Long (λ w. refl) refl (λ v. refl) (λ v. refl) (λ v. rw (s_back v))
     then tt

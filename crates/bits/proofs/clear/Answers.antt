@@ -6,13 +6,13 @@ use Rattle.elements.specs.Elements.{zeros}
 use Rattle.elements.proofs.Elements.{length-zeros, Bytes-zeros, element_at-zeros}
 use Rattle.elements.proofs.Vectors.{put_each}
 use Rattle.bits.specs.Bits.{rose, fell, rises}
-use Rattle.bits.proofs.Bits.{rose_unmoved, fell_unmoved, rose_never, bits-zeros, rises-same, falls-same}
+use Rattle.bits.proofs.Bits.{rose_unmoved, fell_unmoved, rose_never, bits_zeros, rises_same, falls_same}
 use Rattle.bits.proofs.Put.{turn, all}
 use Rattle.bits.proofs.clear.Goals as goal
 
 pub loop-o-init : goal.loop-o-init
 unfolding put_each
-loop-o-init c = (omega arith, omega arith, refl, sym (rises-same _), sym (falls-same _), omega arith, refl)
+loop-o-init c = (omega arith, omega arith, refl, sym (rises_same _), sym (falls_same _), omega arith, refl)
 
 pub loop-o-preserved : goal.loop-o-preserved
 loop-o-preserved c = let eight : c.loop-o.o + 8 ≤ c.args.bytes = omega arith in
@@ -24,7 +24,7 @@ loop-o-preserved c = let eight : c.loop-o.o + 8 ≤ c.args.bytes = omega arith i
       omega (arith, eight),
       omega arith,
       T.upto,
-      c.loop-o.invariant.3 ∙ sym (add-zero _) ∙ ap (λ (n : ℕ). rises c.args.file.now c.loop-o.file + n) (sym (bits-zeros rose rose_never 64 _)) ∙ T.counts rose rose_unmoved,
+      c.loop-o.invariant.3 ∙ sym (add-zero _) ∙ ap (λ (n : ℕ). rises c.args.file.now c.loop-o.file + n) (sym (bits_zeros rose rose_never 64 _)) ∙ T.counts rose rose_unmoved,
       ap₂ ◌+◌ c.loop-o.invariant.4 c.fallen-falls.ensures.0 ∙ T.counts fell fell_unmoved,
       omega (arith, c.fallen-falls.ensures.1),
       T.long,

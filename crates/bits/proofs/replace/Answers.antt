@@ -4,14 +4,14 @@ use native.Mathlib.Omega.{arith}
 use lib.ListN.{length}
 use Rattle.elements.proofs.Vectors.{put_each}
 use Rattle.bits.specs.Bits.{rose, fell}
-use Rattle.bits.proofs.Bits.{rose_unmoved, fell_unmoved, rises-same, falls-same}
+use Rattle.bits.proofs.Bits.{rose_unmoved, fell_unmoved, rises_same, falls_same}
 use Rattle.bits.proofs.Put.{turn, all}
 use Rattle.bits.proofs.replace.Goals as goal
 
 pub loop-i-init : goal.loop-i-init
 unfolding put_each
 loop-i-init c =
-    (omega arith, omega arith, refl, sym (rises-same _), sym (falls-same _), (omega arith, omega arith), refl)
+    (omega arith, omega arith, refl, sym (rises_same _), sym (falls_same _), (omega arith, omega arith), refl)
 
 pub loop-i-preserved : goal.loop-i-preserved
 loop-i-preserved c = let eight : c.loop-i.i + 8 ≤ length c.args.new.now = omega arith in

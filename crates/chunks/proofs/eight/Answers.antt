@@ -2,7 +2,7 @@ use mathlib.Core.Path.{refl, ◌∙◌}
 use native.Mathlib.Omega.{arith}
 use borrow.Author.Rules.{rules}
 use Rattle.elements.proofs.Vectors.{put_each}
-use Rattle.chunks.proofs.Renewed.{own_put, all-put}
+use Rattle.chunks.proofs.Renewed.{own_put, all_put}
 use Rattle.chunks.proofs.eight.Goals as goal
 
 pub loop-e-init : goal.loop-e-init
@@ -19,5 +19,5 @@ loop-e-preserved c = (
 
 pub returns : goal.returns
 returns c =
-    all-put c.args.unsigned c.args.subtract c.args.z.now c.args.at c.args.x c.args.y c.args.by c.loop-e.e c.args.new.now c.loop-e.new
+    all_put c.args.unsigned c.args.subtract c.args.z.now c.args.at c.args.x c.args.y c.args.by c.loop-e.e c.args.new.now c.loop-e.new
     c.loop-e.invariant.0 c.loop-e-test.false c.requires.len c.loop-e.invariant.1

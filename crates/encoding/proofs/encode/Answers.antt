@@ -1,6 +1,6 @@
 -- `encoding::encode` meets its contract. Assumes nothing.
 use mathlib.Core.Path.{sym, ◌∙◌}
-use Rattle.encoding.specs.Encode.{bad-settings, no_word, not_enabled, a_word}
+use Rattle.encoding.specs.Encode.{bad_settings, no_word, not_enabled, a_word}
 use Rattle.encoding.proofs.encode.Goals as goal
 
 pub returns-then-enables : goal.returns-then-enables
@@ -13,4 +13,4 @@ pub returns-then-valid : goal.returns-then-valid
 returns-then-valid c = no_word (sym c.valid.ensures ∙ c.if-valid.true) (c.word_with-word.ensures.none c.if-word-lt-NO_WORD.false)
 
 pub returns : goal.returns
-returns c = bad-settings (sym c.valid.ensures ∙ c.if-valid.false)
+returns c = bad_settings (sym c.valid.ensures ∙ c.if-valid.false)

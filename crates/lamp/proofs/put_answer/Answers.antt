@@ -6,7 +6,7 @@ use Rattle.runlist.specs.RunList.{RunPromise}
 use Rattle.runlist.specs.declared.RunAnswer.TheVariants.{Ran}
 use Rattle.pieces.proofs.Pieces.{said}
 use Rattle.lamp.specs.Lamp.{words_of, WordsAgain}
-use Rattle.lamp.proofs.Text.{accepted, toggled-fits, front, text-ran, text-refused}
+use Rattle.lamp.proofs.Text.{accepted, toggled_fits, front, text_ran, text-refused}
 use Rattle.lamp.proofs.put_answer.Goals as goal
 
 -- the list was accepted: the words stand in front, and they are few enough
@@ -38,7 +38,7 @@ put_ran-requires-clause-words_in_bounds_2 c =
     let many : length (take c.in-Ran.count c.words_again.new.words) ≡ c.in-Ran.count =
     length-take-le _ _ (omega (arith, h.1, c.words_again.auto.words, c.requires.0)) in (
       omega (arith, many, h.2, c.run.auto.report),
-      λ i k. toggled-fits _ _ _ _ _ _ _ _ _ c.in-Ran.ensures i (omega (arith, many, k)),
+      λ i k. toggled_fits _ _ _ _ _ _ _ _ _ c.in-Ran.ensures i (omega (arith, many, k)),
     )
 
 pub returns-in-Refused-clause-wrote : goal.returns-in-Refused-clause-wrote
@@ -48,4 +48,4 @@ returns-in-Refused-clause-wrote c =
 pub returns-in-Ran-clause-wrote : goal.returns-in-Ran-clause-wrote
 returns-in-Ran-clause-wrote c =
     let h = there _ _ _ _ _ _ _ _ _ _ c.in-Ran.ensures c.run.auto.z c.run.auto.za c.run.auto.report c.words_again.ensures in
-    said (text-ran _ _ _ _ _ _ _ _ _ _ c.in-Ran.ensures h.0) c.put_ran.ensures.wrote
+    said (text_ran _ _ _ _ _ _ _ _ _ _ c.in-Ran.ensures h.0) c.put_ran.ensures.wrote

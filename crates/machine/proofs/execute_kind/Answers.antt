@@ -6,7 +6,7 @@ use Rattle.words.specs.declared.Family.{Family}
 use Rattle.words.proofs.ByKind.{family_as_lem}
 use Rattle.words.proofs.Answers.{decodes_exactly}
 use Rattle.machine.specs.Modes.{permits}
-use Rattle.machine.proofs.Executing.{word_ranges, not_permitted, is-done}
+use Rattle.machine.proofs.Executing.{word_ranges, not_permitted, is_done}
 use Rattle.machine.proofs.execute_kind.Goals as goal
 
 pub returns-then-not-permitted : goal.returns-then-not-permitted
@@ -23,4 +23,4 @@ step-requires-clause-ranges c = subst Ranges (sym c.fields_of.ensures) (word_ran
 pub returns : goal.returns
 returns c = let asked : permits c.args.settings.features.0 c.args.settings.modes.0 (fields_as c.args.kind c.args.word).family ≡ c.permitted.result = ap (λ (f : Family). permits c.args.settings.features.0 c.args.settings.modes.0 f) (family_as_lem c.args.kind c.args.word ∙ sym c.kind_family.ensures)
     ∙ sym c.permitted.ensures in
-    is-done c.args.settings c.args.z.now c.args.za.now c.args.word _ c.requires.ready c.requires.word_value _ _ c.fields_of.ensures (asked ∙ c.if-not-permitted.false) c.step.ensures
+    is_done c.args.settings c.args.z.now c.args.za.now c.args.word _ c.requires.ready c.requires.word_value _ _ c.fields_of.ensures (asked ∙ c.if-not-permitted.false) c.step.ensures

@@ -1,8 +1,8 @@
 -- `machine::step_files` meets its contract, family by family. Assumes nothing.
 use mathlib.Core.Logic.{inr, ⊎_elim}
 use Rattle.machine.specs.Loop.{IntoV, IntoZa, Sources}
-use Rattle.machine.proofs.Renewal.{whole-register, none_above}
-use Rattle.machine.proofs.Stepping.{IntoZ, v_into_z, which_file, sources_of, short, places_of, z-done, za-done}
+use Rattle.machine.proofs.Renewal.{whole_register, none_above}
+use Rattle.machine.proofs.Stepping.{IntoZ, v_into_z, which_file, sources_of, short, places_of, z_done, za_done}
 use Rattle.machine.proofs.step_files.Goals as goal
 
 pub write_v-requires-clause-sources : goal.write_v-requires-clause-sources
@@ -17,31 +17,31 @@ step_saturating-requires-clause-family_value c =
     (c.in-Saturating.is, short c.args.settings c.args.fields c.args.z.now c.args.za.now c.requires.ready c.requires.ranges c.args.w c.requires.w_value)
 
 pub step_array-requires-clause-places : goal.step_array-requires-clause-places
-step_array-requires-clause-places c = let into-za : IntoZa c.args.fields = ⊎_elim
+step_array-requires-clause-places c = let into_za_lem : IntoZa c.args.fields = ⊎_elim
     (λ (z : IntoZ c.args.fields). absurd (⊎_elim
     c.in_default.not-ByElement
     (⊎_elim c.in_default.not-Vector c.in_default.not-Saturating)
     z))
     (λ (a : IntoZa c.args.fields). a)
     (which_file c.args.fields) in
-    places_of c.args.settings c.args.fields c.args.z.now c.args.za.now c.requires.ready c.requires.ranges c.args.w c.requires.w_value into-za
+    places_of c.args.settings c.args.fields c.args.z.now c.args.za.now c.requires.ready c.requires.ranges c.args.w c.requires.w_value into_za_lem
 
 pub returns-in-ByElement : goal.returns-in-ByElement
 returns-in-ByElement c = let into_v : IntoV c.args.fields = c.in-ByElement.is in
-    z-done c.args.settings c.args.fields c.args.z.now c.args.za.now c.requires.ready c.requires.ranges c.args.w c.requires.w_value
+    z_done c.args.settings c.args.fields c.args.z.now c.args.za.now c.requires.ready c.requires.ranges c.args.w c.requires.w_value
     (v_into_z c.args.fields into_v) _ _ c.write_v.ensures
 
 pub returns-in-Saturating : goal.returns-in-Saturating
 returns-in-Saturating c = let sources : Sources c.args.fields c.args.w c.args.z.now = sources_of c.args.settings c.args.fields c.args.z.now c.args.za.now c.requires.ready c.requires.ranges c.args.w c.requires.w_value in
-    z-done c.args.settings c.args.fields c.args.z.now c.args.za.now c.requires.ready c.requires.ranges c.args.w c.requires.w_value
-    (inr (inr c.in-Saturating.is)) _ _ (none_above sources (whole-register c.args.fields c.args.w c.in-Saturating.is) c.step_saturating.ensures)
+    z_done c.args.settings c.args.fields c.args.z.now c.args.za.now c.requires.ready c.requires.ranges c.args.w c.requires.w_value
+    (inr (inr c.in-Saturating.is)) _ _ (none_above sources (whole_register c.args.fields c.args.w c.in-Saturating.is) c.step_saturating.ensures)
 
 pub returns-in_default : goal.returns-in_default
-returns-in_default c = let into-za : IntoZa c.args.fields = ⊎_elim
+returns-in_default c = let into_za_lem : IntoZa c.args.fields = ⊎_elim
     (λ (z : IntoZ c.args.fields). absurd (⊎_elim
     c.in_default.not-ByElement
     (⊎_elim c.in_default.not-Vector c.in_default.not-Saturating)
     z))
     (λ (a : IntoZa c.args.fields). a)
     (which_file c.args.fields) in
-    za-done c.args.settings c.args.fields c.args.z.now c.args.za.now c.requires.ready c.requires.ranges c.args.w c.requires.w_value into-za _ _ c.step_array.ensures.0 c.step_array.ensures.1
+    za_done c.args.settings c.args.fields c.args.z.now c.args.za.now c.requires.ready c.requires.ranges c.args.w c.requires.w_value into_za_lem _ _ c.step_array.ensures.0 c.step_array.ensures.1

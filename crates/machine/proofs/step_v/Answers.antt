@@ -2,12 +2,12 @@
 use mathlib.Core.Path.{◌≡◌}
 use mathlib.Core.Logic.{⊎_elim}
 use Rattle.words.specs.declared.Family.TheVariants.{ByElement, Vector}
-use Rattle.machine.proofs.Strides.{by-element, by_pairs}
+use Rattle.machine.proofs.Strides.{by_element_lem, by_pairs}
 use Rattle.machine.proofs.step_v.Goals as goal
 
 pub returns-in-ByElement : goal.returns-in-ByElement
 returns-in-ByElement c =
-    by-element c.requires.sources c.in-ByElement.is _ _ c.renew_v.ensures
+    by_element_lem c.requires.sources c.in-ByElement.is _ _ c.renew_v.ensures
 
 pub returns-in_default : goal.returns-in_default
 returns-in_default c =

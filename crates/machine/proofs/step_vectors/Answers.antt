@@ -2,22 +2,22 @@ use mathlib.Core.Path.{◌≡◌, refl, sym, ap, ◌∙◌}
 use Prim.Native.Nat.{ℕ, ◌+◌, ◌*◌, ◌≤◌, ◌<◌}
 use native.Mathlib.Omega.{arith}
 use Rattle.elements.specs.Files.{replaced}
-use Rattle.bits.proofs.Bits.{rises-same, falls-same}
+use Rattle.bits.proofs.Bits.{rises_same, falls_same}
 use Rattle.words.specs.declared.Fields.{Fields}
 use Rattle.recipes.specs.Recipe.{per_source}
 use mathlib.Core.List.{List}
 use Rattle.machine.specs.Loop.{Places, Grid}
-use Rattle.machine.proofs.Vectors.{few-vectors, Turned, turn, count_next}
+use Rattle.machine.proofs.Vectors.{few_vectors, Turned, turn, count_next}
 use Rattle.machine.proofs.step_vectors.Goals as goal
 
 -- a count stays small
 small : (f : Fields) (w : ℕ) (z za : List ℕ) (stride k first q so_far more : ℕ) → (p : Places f w z za) → (g : Grid w f.group stride k first × (k ≡ per_source f.family))
     → q < f.group * k → so_far ≤ q * (8 * w) → more ≤ 8 * w → (so_far + more ≤ (q + 1) * (8 * w)) × (so_far + more ≤ 32768)
-small f w z za stride k first q so_far more p g in_turn = count_next w q (f.group * k) so_far more p.sources.width.most (few-vectors p g.0 g.1) in_turn
+small f w z za stride k first q so_far more p g in_turn = count_next w q (f.group * k) so_far more p.sources.width.most (few_vectors p g.0 g.1) in_turn
 
 pub loop-q-init : goal.loop-q-init
 unfolding replaced
-loop-q-init c = (omega arith, refl, (sym (rises-same _), sym (falls-same _)), (omega arith, omega arith), refl)
+loop-q-init c = (omega arith, refl, (sym (rises_same _), sym (falls_same _)), (omega arith, omega arith), refl)
 
 pub loop-q-preserved : goal.loop-q-preserved
 loop-q-preserved c =

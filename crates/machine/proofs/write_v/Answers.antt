@@ -1,7 +1,7 @@
 -- `machine::write_v` meets its contract: the V register's new bytes, and zeros behind them. Assumes nothing.
-use Rattle.machine.proofs.Renewal.{all-written}
+use Rattle.machine.proofs.Renewal.{all_written}
 use Rattle.machine.proofs.write_v.Goals as goal
 
 pub returns : goal.returns
 returns c =
-    all-written c.requires.sources c.requires.into_v c.step_v-toggles.ensures c.clear-cleared.ensures
+    all_written c.requires.sources c.requires.into_v c.step_v-toggles.ensures c.clear-cleared.ensures

@@ -7,7 +7,7 @@ use lib.ListN.{get_or}
 use borrow.Author.Tests.{lt-ltb}
 use Rattle.numbers.specs.Numbers.{greatest_byte}
 use Rattle.numbers.proofs.Groups.{fits_fifth, fits_other, fifth_great, several, zero_last, last_group, group_follows}
-use Rattle.numbers.proofs.Turns.{byte-first, Follows, follows, last_fits, out-ends, out-wrong, out-read, turn}
+use Rattle.numbers.proofs.Turns.{byte_first, Follows, follows, last_fits, out_ends, out-wrong, out_read, turn}
 use Rattle.numbers.proofs.read_number.Goals as goal
 
 pub overflow_mul-answer : goal.overflow_mul-answer
@@ -57,15 +57,15 @@ loop-i-preserved c = let passed : ltb (greatest_byte c.loop-i.groups) (get_or c.
     c.loop-i.value
     (get_or c.args.list.now c.loop-i.i 0) = follows c.loop-i.invariant _
     (c.shared_slice_known-1.given c.loop-i.i).fits c.if-byte-lt128.false passed in
-    turn c.loop-i.invariant _ goes_on (byte-first _ _ _ c.if-list-i.false ∙ group_follows _ _ _ passed c.if-byte-lt128.false)
+    turn c.loop-i.invariant _ goes_on (byte_first _ _ _ c.if-list-i.false ∙ group_follows _ _ _ passed c.if-byte-lt128.false)
 
 pub returns-then-list-i : goal.returns-then-list-i
-returns-then-list-i c = out-ends c.loop-i.invariant c.if-list-i.true
+returns-then-list-i c = out_ends c.loop-i.invariant c.if-list-i.true
 
 pub returns-then-byte-gt15 : goal.returns-then-byte-gt15
 returns-then-byte-gt15 c =
     out-wrong c.loop-i.invariant
-    (byte-first _ _ _ c.if-list-i.false ∙ fifth_great _ _ _ c.if-groups-eq4.true (c.if-byte-gt15.true))
+    (byte_first _ _ _ c.if-list-i.false ∙ fifth_great _ _ _ c.if-groups-eq4.true (c.if-byte-gt15.true))
 
 pub returns-then-groups-gt0 : goal.returns-then-groups-gt0
 returns-then-groups-gt0 c = let passed : ltb (greatest_byte c.loop-i.groups) (get_or c.args.list.now c.loop-i.i 0) ≡ false = ⊎_elim
@@ -73,7 +73,7 @@ returns-then-groups-gt0 c = let passed : ltb (greatest_byte c.loop-i.groups) (ge
     (λ w. fits_other _ _ w (c.shared_slice_known-1.given c.loop-i.i).fits)
     c.else-groups-eq4.either in
     out-wrong c.loop-i.invariant
-    (byte-first _ _ _ c.if-list-i.false
+    (byte_first _ _ _ c.if-list-i.false
     ∙ zero_last _ _ _ passed c.if-byte-eq0.true (several _ _ (lt-ltb _ _ c.if-groups-gt0.true)))
 
 pub returns-else-byte-eq0 : goal.returns-else-byte-eq0
@@ -81,7 +81,7 @@ returns-else-byte-eq0 c = let passed : ltb (greatest_byte c.loop-i.groups) (get_
     (λ w. fits_fifth _ _ w.0 (w.1))
     (λ w. fits_other _ _ w (c.shared_slice_known-1.given c.loop-i.i).fits)
     c.else-groups-eq4.either in
-    out-read c.loop-i.invariant _
-    (byte-first _ _ _ c.if-list-i.false
+    out_read c.loop-i.invariant _
+    (byte_first _ _ _ c.if-list-i.false
     ∙ last_group _ _ _ passed c.if-byte-lt128.true
     (⊎_elim (λ w _. omega (arith, w.1)) (λ w z. absurd (w z)) c.else-byte-eq0.either))

@@ -1,5 +1,5 @@
 use mathlib.Core.Path.{sym, ◌∙◌}
-use Rattle.numbers.proofs.Rows.{begin, one_more, out-fault, out-all}
+use Rattle.numbers.proofs.Rows.{begin, one_more, out_fault, out_all}
 use Rattle.numbers.proofs.read_numbers.Goals as goal
 
 pub loop-i-init : goal.loop-i-init
@@ -11,7 +11,7 @@ loop-i-preserved c =
 
 pub returns-in-Fault : goal.returns-in-Fault
 returns-in-Fault c =
-    out-fault c.loop-i.invariant _ _ c.loop-i-test.true (sym c.read_number.ensures ∙ c.in-Fault.is)
+    out_fault c.loop-i.invariant _ _ c.loop-i-test.true (sym c.read_number.ensures ∙ c.in-Fault.is)
 
 pub returns : goal.returns
-returns c = out-all c.loop-i.invariant c.loop-i-test.false
+returns c = out_all c.loop-i.invariant c.loop-i-test.false

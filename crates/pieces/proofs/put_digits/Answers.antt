@@ -3,12 +3,12 @@ use mathlib.Core.Path.{◌≡◌, refl, sym}
 use lib.ListN.{length-set}
 use Rattle.pieces.specs.Pieces.{digits}
 use Rattle.pieces.proofs.Digits.{length_digits}
-use Rattle.pieces.proofs.Pieces.{none-placed, all_placed, all_due, one_more}
+use Rattle.pieces.proofs.Pieces.{none_placed, all_placed, all_due, one_more}
 use Rattle.pieces.proofs.put_digits.Goals as goal
 
 pub loop-left-init : goal.loop-left-init
 loop-left-init c =
-    (omega arith, refl, none-placed _ _ _ _ (sym (length_digits c.args.base c.args.count c.args.n)), all_due c.args.base c.args.count c.args.n)
+    (omega arith, refl, none_placed _ _ _ _ (sym (length_digits c.args.base c.args.count c.args.n)), all_due c.args.base c.args.count c.args.n)
 
 pub loop-left-preserved : goal.loop-left-preserved
 loop-left-preserved c =

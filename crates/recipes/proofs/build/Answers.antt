@@ -6,7 +6,7 @@ use Rattle.elements.proofs.Vectors.{put_each, put_each_turn, put_each_end}
 use Rattle.words.specs.declared.Family.TheVariants.{Saturating}
 use Rattle.recipes.specs.Recipe.{recipe_of}
 use Rattle.lanes.specs.Element.{new_element}
-use Rattle.lanes.proofs.Built.{whole-elements}
+use Rattle.lanes.proofs.Built.{whole_elements}
 use Rattle.recipes.proofs.Saturating.{count_is, c_bytes}
 use Rattle.recipes.proofs.build.Goals as goal
 
@@ -25,6 +25,6 @@ loop-e-preserved c = (
 pub returns : goal.returns
 returns c =
     let n = length c.args.out.now in
-    let long : n ≡ n / (c.args.fields.lane / 4) * (2 * c.args.fields.lane / 8) = sym (rw (count_is c.requires.family_value.1 n) (whole-elements (2 * c.args.fields.lane) c.requires.registers_there.inside.widths.1.0 n c.requires.registers_there.inside.whole)) in
+    let long : n ≡ n / (c.args.fields.lane / 4) * (2 * c.args.fields.lane / 8) = sym (rw (count_is c.requires.family_value.1 n) (whole_elements (2 * c.args.fields.lane) c.requires.registers_there.inside.widths.1.0 n c.requires.registers_there.inside.whole)) in
     put_each_end _ (2 * c.args.fields.lane / 8) c.loop-e.e (n / (c.args.fields.lane / 4)) c.args.out.now c.loop-e.out c.loop-e.invariant.0 c.loop-e-test.false long c.loop-e.invariant.1
     ∙ c_bytes c.args.fields n (drop c.args.at c.args.z.now) (drop c.args.n c.args.z.now) (drop c.args.m c.args.z.now) c.requires.family_value.0 c.requires.family_value.1

@@ -5,7 +5,7 @@ use mathlib.Core.Path.{◌≡◌, sym, ap, ◌∙◌}
 use lib.ListN.{length}
 use Rattle.numbers.specs.Numbers.{numbers_at, row_of, filled}
 use Rattle.numbers.specs.declared.Row.TheVariants.{Next}
-use Rattle.runlist.proofs.Plans.{whole_inside, no-head, headed-by}
+use Rattle.runlist.proofs.Plans.{whole_inside, no-head, headed_by}
 use Rattle.runlist.proofs.read_front.Goals as goal
 
 pub read_rest-requires : goal.read_rest-requires
@@ -18,4 +18,4 @@ returns-in-Fault-clause-front_read c = let seven-filled : c.read_seven.new.out �
 
 pub returns-in-Next-clause-front_read : goal.returns-in-Next-clause-front_read
 returns-in-Next-clause-front_read c = let row-ended : row_of (numbers_at c.args.list.now 0 (length c.args.head.now)) ≡ Next c.in-Next.next = sym c.read_seven.ensures.0 ∙ c.in-Next.is in let seven-filled : c.read_seven.new.out ≡ filled (numbers_at c.args.list.now 0 7) c.args.head.now = c.read_seven.ensures.1 ∙ ap (λ (n : ℕ). filled (numbers_at c.args.list.now 0 n) c.args.head.now) c.requires in
-    headed-by c.args.list.now _ c.args.head.now _ c.requires c.read_seven.ensures.1 _ _ _ row-ended c.settings_of.ensures c.read_rest.ensures
+    headed_by c.args.list.now _ c.args.head.now _ c.requires c.read_seven.ensures.1 _ _ _ row-ended c.settings_of.ensures c.read_rest.ensures

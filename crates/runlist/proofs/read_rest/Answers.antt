@@ -21,5 +21,5 @@ returns-then-list-at c = let valid-so : valid_settings c.args.settings ≡ true 
     cut_short _ _ _ _ valid-so long-so short
 
 pub returns : goal.returns
-returns c = let valid-so : valid_settings c.args.settings ≡ true = sym c.valid.ensures ∙ c.if-not-valid.false in let long-so : right_lengths c.args.settings c.args.z c.args.za ≡ true = sym c.right_lengths.ensures ∙ c.if-not-right_lengths.false in let z-there : c.args.at + c.args.z ≤ length c.args.list.now = omega (arith, c.if-list-at.false, c.requires) in
-    gone_on _ _ _ _ valid-so long-so z-there _ c.read_count.ensures
+returns c = let valid-so : valid_settings c.args.settings ≡ true = sym c.valid.ensures ∙ c.if-not-valid.false in let long-so : right_lengths c.args.settings c.args.z c.args.za ≡ true = sym c.right_lengths.ensures ∙ c.if-not-right_lengths.false in let z_there : c.args.at + c.args.z ≤ length c.args.list.now = omega (arith, c.if-list-at.false, c.requires) in
+    gone_on _ _ _ _ valid-so long-so z_there _ c.read_count.ensures

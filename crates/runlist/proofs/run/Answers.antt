@@ -8,7 +8,7 @@ use lib.Seq.{length-take-le}
 use Rattle.settings.specs.declared.Settings.{Settings}
 use Rattle.runlist.specs.Plan.{most_words}
 use Rattle.runlist.specs.Rooms.{goes_on}
-use Rattle.runlist.proofs.Runs.{refused-run, run_on}
+use Rattle.runlist.proofs.Runs.{refused_run, run_on}
 use Rattle.runlist.proofs.run.Goals as goal
 
 -- the first n places of a room are as many
@@ -22,7 +22,7 @@ returns-then-count-le-FEW_WORDS c =
     run_on c.args.list.now c.args.z.now c.args.za.now c.args.report.now _ c.run_words.result c.run_words.new.z c.run_words.new.za c.run_words.new.report planned c.run_words.ensures
 
 pub returns-in-Refused : goal.returns-in-Refused
-returns-in-Refused c = refused-run c.args.list.now c.args.z.now c.args.za.now c.args.report.now _ _ c.in-Refused.ensures.front_read.says
+returns-in-Refused c = refused_run c.args.list.now c.args.z.now c.args.za.now c.args.report.now _ _ c.in-Refused.ensures.front_read.says
 
 pub returns-else-count-le-FEW_WORDS : goal.returns-else-count-le-FEW_WORDS
 returns-else-count-le-FEW_WORDS c =

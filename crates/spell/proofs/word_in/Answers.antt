@@ -1,5 +1,5 @@
 use Rattle.std.proofs.Common.{arith}
-use Rattle.spell.proofs.Digits.{number_small, not_eight, all_digits, not-digits}
+use Rattle.spell.proofs.Digits.{number_small, not_eight, all_digits, not_digits}
 use Rattle.spell.proofs.word_in.Goals as goal
 
 pub returns-then-line-ne8 : goal.returns-then-line-ne8
@@ -16,4 +16,4 @@ returns-then-all c =
     all_digits c.args.line.now c.loop-i.i _ _ (omega arith) (omega arith) c.loop-i.invariant.1 c.loop-i.invariant.2 c.if-all.true
 
 pub returns : goal.returns
-returns c = not-digits c.args.line.now c.loop-i.i _ (omega arith) (omega arith) c.loop-i.invariant.1 c.if-all.false
+returns c = not_digits c.args.line.now c.loop-i.i _ (omega arith) (omega arith) c.loop-i.invariant.1 c.if-all.false

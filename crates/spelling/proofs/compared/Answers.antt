@@ -4,11 +4,11 @@ use native.Mathlib.Omega.{arith}
 use Rattle.laws.proofs.Tests.{never_both}
 use Rattle.spelling.proofs.Back.{figures}
 use Rattle.encoding.proofs.Found.{is_word, is_none}
-use Rattle.spelling.proofs.Reading.{no-word_of, candidate_spells, other_text}
+use Rattle.spelling.proofs.Reading.{no_word_of, candidate_spells, other_text}
 use Rattle.spelling.proofs.compared.Goals as goal
 
 pub returns-then-word-ge-NO_WORD : goal.returns-then-word-ge-NO_WORD
-returns-then-word-ge-NO_WORD c = is_none (no-word_of c.args.text.now c.args.k c.args.f c.requires.1 (c.word_with-word.ensures.none c.if-word-ge-NO_WORD.true))
+returns-then-word-ge-NO_WORD c = is_none (no_word_of c.args.text.now c.args.k c.args.f c.requires.1 (c.word_with-word.ensures.none c.if-word-ge-NO_WORD.true))
 
 pub is_theirs-requires : goal.is_theirs-requires
 is_theirs-requires c = (c.requires.0, figures _ c.args.f (c.word_with-word.ensures.found (omega arith)).says)

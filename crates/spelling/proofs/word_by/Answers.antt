@@ -7,7 +7,7 @@ use Rattle.encoding.proofs.Found.{is_none}
 use Rattle.spelling.specs.Spell.{letters}
 use Rattle.spelling.specs.Candidate.{fields_by, candidate_at}
 use Rattle.spelling.proofs.Placed.{placed}
-use Rattle.spelling.proofs.Reading.{fits-not-row}
+use Rattle.spelling.proofs.Reading.{fits_not-row}
 use Rattle.spelling.proofs.word_by.Goals as goal
 
 pub slice_bounds-scan-count : goal.slice_bounds-scan-count
@@ -20,7 +20,7 @@ pub slice_bounds-scan-end : goal.slice_bounds-scan-end
 slice_bounds-scan-end c = (placed c.args.k _ _ _ c.requires.0 c.start_at-from.ensures c.start_at-to.ensures c.requires.1).1
 
 pub returns-then-not-scan : goal.returns-then-not-scan
-returns-then-not-scan c = is_none (fits-not-row c.args.text.now c.args.k _ (placed c.args.k _ _ _ c.requires.0 c.start_at-from.ensures c.start_at-to.ensures c.requires.1).2 (sym c.scan.ensures.value ∙ c.if-not-scan.true))
+returns-then-not-scan c = is_none (fits_not-row c.args.text.now c.args.k _ (placed c.args.k _ _ _ c.requires.0 c.start_at-from.ensures c.start_at-to.ensures c.requires.1).2 (sym c.scan.ensures.value ∙ c.if-not-scan.true))
 
 pub compared-requires : goal.compared-requires
 unfolding candidate_at

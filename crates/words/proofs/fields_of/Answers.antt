@@ -7,7 +7,7 @@ use Rattle.words.specs.Says.{As, by_vector, fields_e, describe}
 use Rattle.words.specs.Kinds.{fields_as}
 use Rattle.words.specs.declared.Kind.{Kind}
 use Rattle.words.specs.declared.Kind.TheVariants as kind
-use Rattle.words.proofs.ByKind.{size_of_b, says-zeros}
+use Rattle.words.proofs.ByKind.{size_of_b, says_zeros}
 use Rattle.words.proofs.fields_of.Goals as goal
 
 -- the last arm is that of E with four registers: the other kinds have their own, and `Nothing` says nothing
@@ -24,7 +24,7 @@ last_arm w kind.LongLong2 e a b v s t l m o = absurd (l refl)
 last_arm w kind.LongLong4 e a b v s t l m o = absurd (m refl)
 last_arm w kind.Long2 e a b v s t l m o = absurd (o refl)
 last_arm w kind.Long4 e a b v s t l m o = refl
-last_arm w kind.Nothing e a b v s t l m o = absurd (says-zeros w e)
+last_arm w kind.Nothing e a b v s t l m o = absurd (says_zeros w e)
 
 pub lane_b-requires : goal.lane_b-requires
 unfolding fields_as

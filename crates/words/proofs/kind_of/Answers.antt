@@ -4,7 +4,7 @@ use native.Mathlib.Omega.{arith}
 use mathlib.Core.List.{◌++◌}
 use Rattle.words.specs.Says.{table_c, table_za, says_first, describe}
 use Rattle.words.specs.Kinds.{says_as}
-use Rattle.words.proofs.ByKind.{only_c, only-za, no_row}
+use Rattle.words.proofs.ByKind.{only_c, only_za, no_row}
 use Rattle.words.proofs.kind_of.Goals as goal
 
 pub returns-then-is_a : goal.returns-then-is_a
@@ -31,7 +31,7 @@ returns-in-68 c = let after-b : describe c.args.w ≡ says_first (table_c ++ tab
 pub returns-in-193 : goal.returns-in-193
 unfolding describe
 returns-in-193 c = let after-b : describe c.args.w ≡ says_first (table_c ++ table_za) c.args.w = rw (← c.is_a.ensures, c.if-is_a.false, ← c.is_b.ensures, c.if-is_b.false) in
-    after-b ∙ only-za _ c.ranges.w.fits c.in-193.is ∙ c.kind_za.ensures
+    after-b ∙ only_za _ c.ranges.w.fits c.in-193.is ∙ c.kind_za.ensures
 
 pub returns-in_default : goal.returns-in_default
 unfolding says_as describe
