@@ -1,6 +1,5 @@
 -- `runlist::read_count` meets its contract. Assumes nothing.
 use mathlib.Core.Path.{sym, ◌∙◌}
-use native.Mathlib.Omega.{arith}
 use Rattle.runlist.proofs.Plans.{no_count, too_many, no_room, count_read}
 use Rattle.runlist.proofs.read_count.Goals as goal
 

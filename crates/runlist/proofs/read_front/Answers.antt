@@ -1,9 +1,8 @@
 -- `runlist::read_front` meets its contract. Assumes nothing.
-use Prim.Native.Nat.{ℕ}
 use native.Mathlib.Omega.{arith}
-use mathlib.Core.Path.{◌≡◌, sym, ap, ◌∙◌}
+use mathlib.Core.Path.{◌≡◌, sym, ◌∙◌}
 use lib.ListN.{length}
-use Rattle.numbers.specs.Numbers.{numbers_at, row_of, filled}
+use Rattle.numbers.specs.Numbers.{numbers_at, row_of}
 use Rattle.numbers.specs.declared.Row.TheVariants.{Next}
 use Rattle.runlist.proofs.Plans.{whole_inside, no-head, headed_by}
 use Rattle.runlist.proofs.read_front.Goals as goal
@@ -13,9 +12,7 @@ read_rest-requires c = let row-ended : row_of (numbers_at c.args.list.now 0 (len
     whole_inside c.args.list.now 0 _ _ (omega arith) row-ended
 
 pub returns-in-Fault-clause-front_read : goal.returns-in-Fault-clause-front_read
-returns-in-Fault-clause-front_read c = let seven-filled : c.read_seven.new.out ≡ filled (numbers_at c.args.list.now 0 7) c.args.head.now = c.read_seven.ensures.1 ∙ ap (λ (n : ℕ). filled (numbers_at c.args.list.now 0 n) c.args.head.now) c.requires in
-    no-head c.args.list.now _ c.args.head.now _ c.requires c.read_seven.ensures.1 _ _ (sym c.read_seven.ensures.0 ∙ c.in-Fault.is)
+returns-in-Fault-clause-front_read c = no-head c.args.list.now _ c.args.head.now _ c.requires c.read_seven.ensures.1 _ _ (sym c.read_seven.ensures.0 ∙ c.in-Fault.is)
 
 pub returns-in-Next-clause-front_read : goal.returns-in-Next-clause-front_read
-returns-in-Next-clause-front_read c = let row-ended : row_of (numbers_at c.args.list.now 0 (length c.args.head.now)) ≡ Next c.in-Next.next = sym c.read_seven.ensures.0 ∙ c.in-Next.is in let seven-filled : c.read_seven.new.out ≡ filled (numbers_at c.args.list.now 0 7) c.args.head.now = c.read_seven.ensures.1 ∙ ap (λ (n : ℕ). filled (numbers_at c.args.list.now 0 n) c.args.head.now) c.requires in
-    headed_by c.args.list.now _ c.args.head.now _ c.requires c.read_seven.ensures.1 _ _ _ row-ended c.settings_of.ensures c.read_rest.ensures
+returns-in-Next-clause-front_read c = let row-ended : row_of (numbers_at c.args.list.now 0 (length c.args.head.now)) ≡ Next c.in-Next.next = sym c.read_seven.ensures.0 ∙ c.in-Next.is in headed_by c.args.list.now _ c.args.head.now _ c.requires c.read_seven.ensures.1 _ _ _ row-ended c.settings_of.ensures c.read_rest.ensures
