@@ -6,7 +6,8 @@ ghost use Rattle.lanes.specs.Lane.{s_int, low, product as product_paper, lane_st
 ghost use Rattle.lanes.specs.Signed.{signed_value, signs, limit};
 ghost use Rattle.lanes.specs.Widths.{IsWidth, Widths, raise};
 
-// The next three: a number of that sign added to the accumulator, by the wrapping sum or difference of its width.
+// The next three: a number of that sign added to the accumulator, by the wrapping sum or difference of its width. A rule of the project (docs/FORMS.md) is
+// that the accumulate uses wrapping add and subtract on u16, u32 and u64: one function over a trait that the three types implement keeps it.
 fn accumulate_16(acc: u64, neg: bool, mag: u64) -> u64
     requires { (acc < 2 ^ 16) × (mag < 2 ^ 16) }
     ensures { result ≡ low 16 (pos acc +ℤ signed_value neg mag) }

@@ -25,6 +25,7 @@ pub fn read_number(list: &[u8], at: usize) -> Read
     // What 1 in the present group stands for.
     let mut scale: u32 = 1;
     let mut value: u32 = 0;
+    // Kept: a rule of the project (docs/FORMS.md) names this form, a loop over groups that yields its answer by `break`.
     let answer = loop {
         if list.len() <= i {
             break Read::Fault {

@@ -7,7 +7,7 @@ ghost use Rattle.reader.specs.Moves.{place_after, end_of, stored_at};
 
 use numbers::{Read, Row};
 
-// The reader keeps the list and its present place.
+// The reader keeps the list and its present place. A rule of the project (docs/FORMS.md) names this form: a thin struct with the list slice and a position.
 #[derive(Clone, Copy)]
 struct Reader<'a> {
     list: &'a [u8],

@@ -5,7 +5,8 @@ ghost use Rattle.settings.specs.Sets.{has_features, has_modes, named_numbers};
 ghost use Rattle.settings.specs.Valid.{valid_length, valid_features, valid_modes, valid_settings, vector_bytes, array_bytes};
 ghost use Rattle.settings.specs.Refused.{refusal_number};
 
-// A set of features: the sum of the numbers of those that are there.
+// A set of features: the sum of the numbers of those that are there. Kept: a rule of the project (docs/FORMS.md) names this form, a type with associated
+// constants and a `contains` function; any number of 32 bits may be given, and the settings refuse what is no sum.
 #[derive(Clone, Copy)]
 pub struct Features(pub u32);
 

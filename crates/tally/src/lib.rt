@@ -23,7 +23,8 @@ fn added(tally: Tally, rises: u32, falls: u32, written: u32) -> Tally
     }
 }
 
-// Brings the tally that is lent up to date by one word.
+// Brings the tally that is lent up to date by one word. A rule of the project (docs/FORMS.md) names this form: a small tally struct that is lent by `&mut`
+// to one thin function; a method `&mut self` keeps it.
 fn add(tally: &mut Tally, rises: u32, falls: u32, written: u32)
     requires { (tally.old.rises + rises < 2 ^ 32) × (tally.old.falls + falls < 2 ^ 32) × (tally.old.written + written < 2 ^ 32) }
     ensures { tally.new ≡ plus tally.old rises falls written }
