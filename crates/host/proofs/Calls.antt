@@ -1,4 +1,5 @@
 -- From what a public call promises, and what is put down of its answer, to what the C function promises. Assumes nothing.
+use Rattle.std.specs.Prelude.{Some, None}
 use Prim.Native.Nat.{ℕ, ◌<◌, ◌^◌}
 use native.Mathlib.Omega.{arith}
 use mathlib.Core.Path.{◌≡◌, ap, ◌∙◌}
@@ -25,7 +26,6 @@ use Rattle.spelling.proofs.Printing.{print_short}
 use Rattle.demands.proofs.Lists.{run_small}
 use Rattle.callinglamp.specs.Promises.{DecodePromise, EncodePromise, PartnerPromise, ExecutePromise, RunPromise, PrintPromise, ReadPromise}
 use Rattle.packing.specs.Packing.{halves, fields_from, decoded_into, executed_into, ran_into, ExecutedPut, RanPut, FitsHalf, TextFits}
-use Rattle.packing.specs.declared.GivenFields.TheVariants.{Are, Nothing}
 use Rattle.host.specs.Host.{host_decode, HostDecode, EncodesNumbers, HostEncode, HostPartner, host_execute, HostExecute, host_run, HostRun, HostPrint, HostRead}
 
 module _ (settings : List ℕ) (s : Settings) (e : s ≡ settings_of settings) where
@@ -35,11 +35,11 @@ module _ (settings : List ℕ) (s : Settings) (e : s ≡ settings_of settings) w
   decode_said word fields fields' a r p h =
       rw (← e) (h ∙ ap (λ (d : ℕ × Fields). decoded_into d fields) p)
 
-  pub encode_said : (fields : List ℕ) (f : Fields) (a : Encoded) (r : ℕ) → fields_from fields ≡ Are f → EncodePromise s f a
+  pub encode_said : (fields : List ℕ) (f : Fields) (a : Encoded) (r : ℕ) → fields_from fields ≡ Some f → EncodePromise s f a
       → halves r ≡ encoded_says a → HostEncode settings fields r
   encode_said fields f a r g p h = rw (← e, g, h) p
 
-  pub encode_nothing : (fields : List ℕ) (r : ℕ) → fields_from fields ≡ Nothing → EncodesNumbers s Nothing (halves r) → HostEncode settings fields r
+  pub encode_nothing : (fields : List ℕ) (r : ℕ) → fields_from fields ≡ None → EncodesNumbers s None (halves r) → HostEncode settings fields r
   encode_nothing fields r g p = rw (← e, g) p
 
   pub partner_said : (word : ℕ) (a : Partnered) (r : ℕ) → PartnerPromise s word a → halves r ≡ partnered_says a → HostPartner settings word r

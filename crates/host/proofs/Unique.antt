@@ -1,15 +1,15 @@
 -- Each promise of the C interface determines the answer, and every byte and number that was lent: any two results that it allows are
 -- equal. Assumes nothing.
+use Rattle.std.specs.Prelude.{Option, Some, None}
 use Prim.Native.Nat.{ℕ}
 use mathlib.Core.Path.{◌≡◌, sym, ap, ◌∙◌}
 use mathlib.Core.List.{List}
+use Rattle.words.specs.declared.Fields.{Fields}
 use Rattle.settings.specs.declared.Settings.{Settings}
 use Rattle.encoding.proofs.Theorems.{encodes_unique}
 use Rattle.runlist.specs.Plan.{settings_of}
 use Rattle.spelling.proofs.Theorems.{reads_unique}
 use Rattle.packing.specs.Packing.{of_halves, halves, fields_from, HostExecuted, HostRan}
-use Rattle.packing.specs.declared.GivenFields.{GivenFields}
-use Rattle.packing.specs.declared.GivenFields.TheVariants.{Are, Nothing}
 use Rattle.packing.proofs.Theorems.{answer_back}
 use Rattle.host.specs.Host.{HostDecode, EncodesNumbers, HostEncode, HostPartner, HostExecute, HostPercent, HostRun, HostPrint, HostRead, HostVersion}
 
@@ -24,9 +24,9 @@ decode_unique settings word fields r q fields1 fields2 e g =
     let same = e ∙ sym g in
     (halves_known r q (ap (λ (x : (ℕ × ℕ) × List ℕ). x.0) same), ap (λ (x : (ℕ × ℕ) × List ℕ). x.1) same)
 
-numbers_encoded : (s : Settings) (f : GivenFields) (a b : ℕ × ℕ) → EncodesNumbers s f a → EncodesNumbers s f b → a ≡ b
-numbers_encoded s (Are f) a b p q = encodes_unique s f a b p q
-numbers_encoded s Nothing a b p q = p ∙ sym q
+numbers_encoded : (s : Settings) (f : Option Fields) (a b : ℕ × ℕ) → EncodesNumbers s f a → EncodesNumbers s f b → a ≡ b
+numbers_encoded s (Some f) a b p q = encodes_unique s f a b p q
+numbers_encoded s None a b p q = p ∙ sym q
 
 pub encode_unique : (settings fields : List ℕ) (r q : ℕ) → HostEncode settings fields r → HostEncode settings fields q → r ≡ q
 encode_unique settings fields r q e g = halves_known r q (numbers_encoded (settings_of settings) (fields_from fields) (halves r) (halves q) e g)

@@ -1,6 +1,7 @@
 -- The C interface, include/callinglamp.h: what each function answers, and what stands afterwards in each array that it was lent. What is said
 -- is what the public calls promise; as numbers it stands in `packing`.
-use Rattle.std.specs.Prelude.{ℕ, ◌≡◌, cond, List}
+use Rattle.std.specs.Prelude.{ℕ, ◌≡◌, cond, List, Option, Some, None}
+use Rattle.words.specs.declared.Fields.{Fields}
 use Rattle.settings.specs.Valid.{valid_settings}
 use Rattle.settings.specs.declared.Settings.{Settings}
 use Rattle.words.specs.Decode.{decode_paper}
@@ -13,8 +14,6 @@ use Rattle.runlist.specs.RunList.{run_paper}
 use Rattle.spelling.specs.Print.{print_paper}
 use Rattle.spelling.specs.Language.{Reads}
 use Rattle.packing.specs.Packing.{halves, fields_from, decoded_into, HostExecuted, executed_into, HostRan, ran_into}
-use Rattle.packing.specs.declared.GivenFields.{GivenFields}
-use Rattle.packing.specs.declared.GivenFields.TheVariants.{Are, Nothing}
 
 -- ---- decode
 
@@ -27,9 +26,9 @@ HostDecode settings word fields r fields' = (halves r, fields') ≡ host_decode 
 -- ---- encode
 
 -- numbers that are no fields: 5 after 1, since no word has them
-abbrev pub EncodesNumbers : Settings → GivenFields → ℕ × ℕ → Type 0
-EncodesNumbers s (Are f) answer = Encodes s f answer
-EncodesNumbers s Nothing answer = answer ≡ cond (valid_settings s) (5, 0) (1, 0)
+abbrev pub EncodesNumbers : Settings → Option Fields → ℕ × ℕ → Type 0
+EncodesNumbers s (Some f) answer = Encodes s f answer
+EncodesNumbers s None answer = answer ≡ cond (valid_settings s) (5, 0) (1, 0)
 
 abbrev pub HostEncode : List ℕ → List ℕ → ℕ → Type 0
 HostEncode settings fields r = EncodesNumbers (settings_of settings) (fields_from fields) (halves r)

@@ -4,8 +4,6 @@
 
 ghost use Rattle.host.specs.Host.{HostDecode, HostEncode, HostPartner, HostExecute, HostPercent, HostRun, HostPrint, HostRead, HostVersion};
 
-use packing::GivenFields;
-
 // The fields of a word, in `fields`. Refusals 1, 3.
 pub fn callinglamp_decode(settings: &[u32; 7], word: u32, fields: &mut [u32; 12]) -> u64
     ensures { HostDecode settings.now word fields.old result fields.new }
@@ -22,8 +20,8 @@ pub fn callinglamp_encode(settings: &[u32; 7], fields: &[u32; 12]) -> u64
 {
     let given = runlist::settings_of(settings);
     match packing::fields_from(fields) {
-        GivenFields::Are(asked) => packing::encoded(callinglamp::encode(given, asked)),
-        GivenFields::Nothing => packing::no_fields(given),
+        Some(asked) => packing::encoded(callinglamp::encode(given, asked)),
+        None => packing::no_fields(given),
     }
 }
 

@@ -1,4 +1,5 @@
 -- What is put down of an answer: its two halves, and the numbers of the arrays. Assumes nothing.
+use Rattle.std.specs.Prelude.{Some, None}
 use Prim.Native.Nat.{ℕ}
 use mathlib.Core.Path.{◌≡◌, refl, ap, ap₂}
 use mathlib.Core.Bool.{true, false}
@@ -19,7 +20,6 @@ use Rattle.machine.specs.declared.Executed.TheVariants as executed
 use Rattle.tally.specs.declared.Tally.{Tally}
 use Rattle.runlist.specs.declared.RunAnswer.{RunAnswer}
 use Rattle.runlist.specs.declared.RunAnswer.TheVariants as answer
-use Rattle.packing.specs.declared.GivenFields.TheVariants.{Are, Nothing}
 use Rattle.words.specs.Numbers.{family_of}
 use Rattle.packing.specs.Packing.{halves, field_at, field_numbers, are_fields, fields_with, fields_from, decoded_into, ExecutedPut, RanPut}
 use Rattle.packing.specs.Theorems.{HalvesBack}
@@ -32,13 +32,13 @@ halves_back refusal value h = ap₂ (λ (a b : ℕ). (a, b)) (digits_mod value h
 -- ---- fields
 
 module _ (n : List ℕ) where
-  pub no_fields : are_fields n ≡ false → Nothing ≡ fields_from n
+  pub no_fields : are_fields n ≡ false → None ≡ fields_from n
   unfolding fields_from
   no_fields e = cond_no (are_fields n) _ _ _ e refl
 
-  pub some_fields : (f : Fields) → are_fields n ≡ true → f ≡ fields_with (family_of (get_or n field_at.family 0)) n → Are f ≡ fields_from n
+  pub some_fields : (f : Fields) → are_fields n ≡ true → f ≡ fields_with (family_of (get_or n field_at.family 0)) n → Some f ≡ fields_from n
   unfolding fields_from
-  some_fields f e g = cond_yes (are_fields n) _ _ _ e (ap Are g)
+  some_fields f e g = cond_yes (are_fields n) _ _ _ e (ap Some g)
 
 -- ---- decode
 

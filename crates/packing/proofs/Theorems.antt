@@ -1,4 +1,5 @@
 -- The statements of specs/Theorems.antt, proved but for the first, which Put.antt proves. Assumes nothing.
+use Rattle.std.specs.Prelude.{Option, Some, None}
 use Prim.Native.Nat.{ℕ, ◌^◌}
 use native.Mathlib.Nat.{div-add-mod'}
 use native.Mathlib.Omega.{arith}
@@ -14,8 +15,6 @@ use Rattle.words.specs.declared.Fields.{Fields}
 use Rattle.words.proofs.Numbers.{family_range, family_back, number_family, bit_range, bit_back, number_bit}
 use Rattle.packing.specs.Packing.{field_at, field_numbers, are_fields, fields_with, fields_from}
 use Rattle.packing.specs.Theorems.{AnswerBack, FieldsBack, NumbersBack}
-use Rattle.packing.specs.declared.GivenFields.{GivenFields}
-use Rattle.packing.specs.declared.GivenFields.TheVariants.{Are, Nothing}
 
 -- ---- an answer
 
@@ -40,13 +39,13 @@ numbers_are n e t =
     rw (number_family (get_or n field_at.family 0) (leb-true _ _ r.0) (leb-true _ _ r.1), number_bit (get_or n field_at.unsigned 0) (leb-true _ _ q.1), number_bit (get_or n field_at.subtract 0) (leb-true _ _ p.1))
     (elements_are 12 0 n (sym e))
 
-are : GivenFields → Fields → Fields
-are (Are f) g = f
-are Nothing g = g
+are : Option Fields → Fields → Fields
+are (Some f) g = f
+are None g = g
 
 pub numbers_back : NumbersBack
 unfolding fields_from are
 numbers_back n f e =
-    by_cond (are_fields n) (Are (fields_with (family_of (get_or n field_at.family 0)) n)) Nothing (Are f)
-    (λ t g. ap field_numbers (sym (ap (λ (x : GivenFields). are x f) g)) ∙ numbers_are n e t)
+    by_cond (are_fields n) (Some (fields_with (family_of (get_or n field_at.family 0)) n)) None (Some f)
+    (λ t g. ap field_numbers (sym (ap (λ (x : Option Fields). are x f) g)) ∙ numbers_are n e t)
     (λ _ g. let z : ◌≡◌ {A = ℕ} 0 1 = cc in absurd (omega arith))

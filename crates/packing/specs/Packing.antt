@@ -1,5 +1,5 @@
 -- What C passes and gets, as numbers, as include/callinglamp.h says it: an answer, a word's fields, and what stands in the arrays that a call was lent.
-use Rattle.std.specs.Prelude.{ℕ, ◌+◌, ◌*◌, ◌/◌, ◌%◌, ◌^◌, ◌<◌, ◌≡◌, Bool, ◌&&◌, cond, List, [], ◌∷◌, eqb, leb, get_or, set, replicate}
+use Rattle.std.specs.Prelude.{ℕ, ◌+◌, ◌*◌, ◌/◌, ◌%◌, ◌^◌, ◌<◌, ◌≡◌, Bool, ◌&&◌, cond, List, [], ◌∷◌, eqb, leb, get_or, set, replicate, Option, Some, None}
 use Rattle.words.specs.Numbers.{family_number, family_of, bit_of}
 use Rattle.words.specs.Says.{is_one}
 use Rattle.words.specs.declared.Family.{Family}
@@ -11,8 +11,6 @@ use Rattle.runlist.specs.declared.RunAnswer.{RunAnswer}
 use Rattle.runlist.specs.declared.RunAnswer.TheVariants as answer
 use Rattle.spelling.specs.Print.{printed_says}
 use Rattle.spelling.specs.declared.Printed.{Printed}
-use Rattle.packing.specs.declared.GivenFields.{GivenFields}
-use Rattle.packing.specs.declared.GivenFields.TheVariants.{Are, Nothing}
 
 -- ---- an answer is one number of 64 bits
 
@@ -103,8 +101,8 @@ fields_with family n =
     }
 
 -- the fields that twelve numbers stand for, where there are any
-unfoldable pub fields_from : List ℕ → GivenFields
-fields_from n = cond (are_fields n) (Are (fields_with (family_of (get_or n field_at.family 0)) n)) Nothing
+unfoldable pub fields_from : List ℕ → Option Fields
+fields_from n = cond (are_fields n) (Some (fields_with (family_of (get_or n field_at.family 0)) n)) None
 
 -- ---- what decode, execute and run leave in arrays
 

@@ -47,13 +47,6 @@ const SELECT: usize = 10;
 
 const OFFSET: usize = 11;
 
-// The fields that twelve numbers stand for.
-#[derive(Clone, Copy)]
-pub enum GivenFields {
-    Are(Fields),
-    Nothing,
-}
-
 // The refusal number in the low half, and in the high half what the call gives beside it.
 fn of_halves(refusal: u32, value: u32) -> u64
     ensures { halves result ≡ (refusal, value) }
@@ -129,13 +122,14 @@ fn fields_with(family: Family, numbers: &[u32; 12]) -> Fields
     }
 }
 
-pub fn fields_from(numbers: &[u32; 12]) -> GivenFields
+// The fields that twelve numbers stand for, if they stand for any.
+pub fn fields_from(numbers: &[u32; 12]) -> Option<Fields>
     ensures { result ≡ fields_from numbers.now }
 {
     if !are_fields(numbers) {
-        return GivenFields::Nothing;
+        return None;
     }
-    GivenFields::Are(fields_with(family_of(numbers[FAMILY]), numbers))
+    Some(fields_with(family_of(numbers[FAMILY]), numbers))
 }
 
 // An answer, as numbers: a word's fields go into `fields`.
