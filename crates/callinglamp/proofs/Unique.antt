@@ -2,12 +2,11 @@
 use Prim.Native.Nat.{ℕ}
 use mathlib.Core.Path.{◌≡◌}
 use mathlib.Core.List.{List}
+use Rattle.std.specs.Prelude.{Result}
+use Rattle.settings.specs.declared.Refusal.{Refusal}
 use Rattle.settings.specs.declared.Settings.{Settings}
 use Rattle.words.specs.declared.Fields.{Fields}
-use Rattle.words.specs.declared.Decoded.{Decoded}
-use Rattle.words.specs.declared.Partnered.{Partnered}
 use Rattle.words.proofs.Answers as words
-use Rattle.encoding.specs.declared.Encoded.{Encoded}
 use Rattle.encoding.proofs.Theorems as encoding
 use Rattle.machine.specs.declared.Executed.{Executed}
 use Rattle.machine.proofs.Answers as machine
@@ -19,13 +18,13 @@ use Rattle.spelling.specs.declared.WordRead.{WordRead}
 use Rattle.spelling.proofs.Theorems as spelling
 use Rattle.callinglamp.specs.Promises.{DecodePromise, EncodePromise, PartnerPromise, ExecutePromise, PercentPromise, RunPromise, PrintPromise, ReadPromise}
 
-pub decode_unique : (settings : Settings) (word : ℕ) (r q : Decoded) → DecodePromise settings word r → DecodePromise settings word q → r ≡ q
+pub decode_unique : (settings : Settings) (word : ℕ) (r q : Result Fields Refusal) → DecodePromise settings word r → DecodePromise settings word q → r ≡ q
 decode_unique = words.decode_unique
 
-pub encode_unique : (settings : Settings) (fields : Fields) (r q : Encoded) → EncodePromise settings fields r → EncodePromise settings fields q → r ≡ q
+pub encode_unique : (settings : Settings) (fields : Fields) (r q : Result ℕ Refusal) → EncodePromise settings fields r → EncodePromise settings fields q → r ≡ q
 encode_unique = encoding.encode_unique
 
-pub partner_unique : (settings : Settings) (word : ℕ) (r q : Partnered) → PartnerPromise settings word r → PartnerPromise settings word q → r ≡ q
+pub partner_unique : (settings : Settings) (word : ℕ) (r q : Result ℕ Refusal) → PartnerPromise settings word r → PartnerPromise settings word q → r ≡ q
 partner_unique = words.partner_unique
 
 -- the answer, and Z and ZA at the end

@@ -1,14 +1,13 @@
 -- What the eight public calls promise, side by side: what each answers, and what it leaves in what was lent to it. What a promise cites stands
 -- in the crates below: layouts and fields in `words`, the step in `machine`, the list in `runlist`, the texts in `spelling`.
-use Rattle.std.specs.Prelude.{ℕ, ◌≡◌, List}
+use Rattle.std.specs.Prelude.{ℕ, ◌≡◌, List, Result}
+use Rattle.settings.specs.Refused.{word_says}
+use Rattle.settings.specs.declared.Refusal.{Refusal}
 use Rattle.settings.specs.declared.Settings.{Settings}
 use Rattle.words.specs.Decode.{decoded_says, decode_paper}
 use Rattle.words.specs.Partner as words
 use Rattle.words.specs.declared.Fields.{Fields}
-use Rattle.words.specs.declared.Decoded.{Decoded}
-use Rattle.words.specs.declared.Partnered.{Partnered}
-use Rattle.encoding.specs.Encode.{encoded_says, Encodes}
-use Rattle.encoding.specs.declared.Encoded.{Encoded}
+use Rattle.encoding.specs.Encode.{Encodes}
 use Rattle.machine.specs.Execute as machine
 use Rattle.machine.specs.declared.Executed.{Executed}
 use Rattle.rate.specs.Rate.{percent_of}
@@ -20,15 +19,15 @@ use Rattle.spelling.specs.declared.Printed.{Printed}
 use Rattle.spelling.specs.declared.WordRead.{WordRead}
 
 -- the fields of a word. "Decode tests 1, 3"
-abbrev pub DecodePromise : Settings → ℕ → Decoded → Type 0
+abbrev pub DecodePromise : Settings → ℕ → Result Fields Refusal → Type 0
 DecodePromise settings word r = decoded_says r ≡ decode_paper settings word
 
 -- the word that has exactly these fields. "encode 1, 5, 3"
-abbrev pub EncodePromise : Settings → Fields → Encoded → Type 0
-EncodePromise settings fields r = Encodes settings fields (encoded_says r)
+abbrev pub EncodePromise : Settings → Fields → Result ℕ Refusal → Type 0
+EncodePromise settings fields r = Encodes settings fields (word_says r)
 
 -- "The partner of a word is the word with S flipped." "partner 1, 3, 6"
-abbrev pub PartnerPromise : Settings → ℕ → Partnered → Type 0
+abbrev pub PartnerPromise : Settings → ℕ → Result ℕ Refusal → Type 0
 PartnerPromise = words.PartnerPromise
 
 -- what a step does to Z and ZA, the bits that rose, those that fell and those that were written. "execute 1, 2, 3, 4"

@@ -3,30 +3,29 @@
 
 ghost use Rattle.callinglamp.specs.Promises.{DecodePromise, EncodePromise, PartnerPromise, ExecutePromise, PercentPromise, RunPromise, PrintPromise, ReadPromise};
 
-pub use encoding::Encoded;
 pub use machine::{Counts, Executed};
 pub use runlist::RunAnswer;
 pub use settings::{Features, Modes, Refusal, Settings};
 pub use spelling::{Printed, WordRead, longest_text};
 pub use tally::Tally;
-pub use words::{Decoded, Family, Fields, Partnered};
+pub use words::{Family, Fields};
 
 // The fields of a word. Refusals 1, 3.
-pub fn decode(settings: Settings, word: u32) -> Decoded
+pub fn decode(settings: Settings, word: u32) -> Result<Fields, Refusal>
     ensures { DecodePromise settings word result }
 {
     words::decode(settings, word)
 }
 
 // The word that has exactly these fields. Refusals 1, 5, 3.
-pub fn encode(settings: Settings, fields: Fields) -> Encoded
+pub fn encode(settings: Settings, fields: Fields) -> Result<u32, Refusal>
     ensures { EncodePromise settings fields result }
 {
     encoding::encode(settings, fields)
 }
 
 // The word with S flipped. Refusals 1, 3, 6.
-pub fn partner(settings: Settings, word: u32) -> Partnered
+pub fn partner(settings: Settings, word: u32) -> Result<u32, Refusal>
     ensures { PartnerPromise settings word result }
 {
     words::partner(settings, word)

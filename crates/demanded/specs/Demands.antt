@@ -1,17 +1,15 @@
 -- The three demands, a record each. A field is a statement that document 01, a landed request or the order makes, in its words; proofs/Demands.antt
 -- proves each record, so that no statement can be dropped or lost in silence. That a call ends, for every input, is what the check says of a
 -- function without a `requires`: no public call has one.
-use Rattle.std.specs.Prelude.{ℕ, ◌^◌, ◌<◌, ◌≡◌, ◌↔◌, true, List}
+use Rattle.std.specs.Prelude.{ℕ, ◌^◌, ◌<◌, ◌≡◌, ◌↔◌, true, List, Result}
 use Rattle.settings.specs.Valid.{valid_settings}
+use Rattle.settings.specs.declared.Refusal.{Refusal}
 use Rattle.settings.specs.declared.Settings.{Settings}
 use Rattle.words.specs.Says.{table, SaidBy}
 use Rattle.words.specs.Decode.{enables, decode_paper}
 use Rattle.words.specs.declared.Family.TheVariants.{ByElement, Vector, Saturating, LongLong, Long}
 use Rattle.words.specs.declared.Fields.{Fields}
-use Rattle.words.specs.declared.Decoded.{Decoded}
-use Rattle.words.specs.declared.Partnered.{Partnered}
 use Rattle.encoding.specs.Encode.{Encodes}
-use Rattle.encoding.specs.declared.Encoded.{Encoded}
 use Rattle.machine.specs.declared.Executed.{Executed}
 use Rattle.runlist.specs.declared.RunAnswer.{RunAnswer}
 use Rattle.spelling.specs.Language.{Reads}
@@ -39,9 +37,9 @@ OnlyOne {A} Promise = (x y : A) → Promise x → Promise y → x ≡ y
 -- call changes no lent byte or number"
 pub record Demand1 : Type 0 where
   -- "For every input, a public call's promise determines its result, the refusal number and every byte or number lent to it"
-  pub decode_determined : (s : Settings) (w : ℕ) → OnlyOne {A = Decoded} (DecodePromise s w)
-  pub encode_determined : (s : Settings) (f : Fields) → OnlyOne {A = Encoded} (EncodePromise s f)
-  pub partner_determined : (s : Settings) (w : ℕ) → OnlyOne {A = Partnered} (PartnerPromise s w)
+  pub decode_determined : (s : Settings) (w : ℕ) → OnlyOne {A = Result Fields Refusal} (DecodePromise s w)
+  pub encode_determined : (s : Settings) (f : Fields) → OnlyOne {A = Result ℕ Refusal} (EncodePromise s f)
+  pub partner_determined : (s : Settings) (w : ℕ) → OnlyOne {A = Result ℕ Refusal} (PartnerPromise s w)
   -- the answer, Z and ZA
   pub execute_determined : (s : Settings) (w : ℕ) (z za : List ℕ)
       → OnlyOne {A = Executed × List ℕ × List ℕ} (λ a. ExecutePromise s w z za a.0 a.1 a.2)

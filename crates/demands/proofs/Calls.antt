@@ -2,12 +2,12 @@
 use Prim.Native.Nat.{ℕ}
 use mathlib.Core.Path.{◌≡◌, refl, sym, ap, ap₂, ◌∙◌, subst}
 use mathlib.Core.List.{List, [], ◌∷◌, map, reverse, reverse_aux, nil≢cons, cons≢nil, head-eq_of_cons-eq, tail-eq_of_cons-eq}
-use Rattle.settings.specs.Refused.{refusal_number}
+use Rattle.std.specs.Prelude.{Result, Ok, Err}
+use Rattle.settings.specs.Refused.{refusal_number, word_says}
+use Rattle.settings.specs.declared.Refusal.{Refusal}
 use Rattle.settings.specs.declared.Settings.{Settings}
 use Rattle.settings.proofs.Refusals.{not_0}
-use Rattle.words.specs.Partner.{partnered_says, partner_paper}
-use Rattle.words.specs.declared.Partnered.{Partnered}
-use Rattle.words.specs.declared.Partnered.TheVariants as partnered
+use Rattle.words.specs.Partner.{partner_paper}
 use Rattle.machine.specs.Execute.{Outcome, executed_says, execute_paper, ExecutePromise}
 use Rattle.machine.specs.Run.{Report, report_of, Run, PerWord, report_first, run_of}
 use Rattle.machine.specs.declared.Executed.{Executed}
@@ -19,10 +19,10 @@ use Rattle.demands.proofs.Sweep.{undo_word, undo_refused, sweep_closes}
 
 -- ---- the two calls of the way back
 
-followed_says : (s : Settings) (w : ℕ) (z za : List ℕ) (r : Executed) (z' za' : List ℕ) (p : Partnered) → partnered_says p ≡ partner_paper s w
+followed_says : (s : Settings) (w : ℕ) (z za : List ℕ) (r : Executed) (z' za' : List ℕ) (p : Result ℕ Refusal) → word_says p ≡ partner_paper s w
     → Followed s p z za r z' za' → executed_says r z' za' ≡ undo_paper s w z za
-followed_says s w z za r z' za' (partnered.Word v) e f = f ∙ undo_word s w z za v e
-followed_says s w z za r z' za' (partnered.Refused q) e (er, ez, eza) =
+followed_says s w z za r z' za' (Ok v) e f = f ∙ undo_word s w z za v e
+followed_says s w z za r z' za' (Err q) e (er, ez, eza) =
     rw (er, ez, eza) (undo_refused s w z za (refusal_number q) e (not_0 q))
 
 undo_says : (s : Settings) (w : ℕ) (z za : List ℕ) (r : Executed) (z' za' : List ℕ) → UndoCalls s w z za r z' za' → executed_says r z' za' ≡ undo_paper s w z za

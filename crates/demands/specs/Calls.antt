@@ -1,10 +1,9 @@
 -- Demand 3, as a caller of `execute` and `partner` sees it. The calls are known by their promises alone. proofs/Calls.antt proves the statement.
-use Rattle.std.specs.Prelude.{ℕ, ◌≡◌, List, [], ◌∷◌, map, reverse}
+use Rattle.std.specs.Prelude.{ℕ, ◌≡◌, List, [], ◌∷◌, map, reverse, Result, Ok, Err}
 use Rattle.laws.specs.Lists.{Each}
+use Rattle.settings.specs.declared.Refusal.{Refusal}
 use Rattle.settings.specs.declared.Settings.{Settings}
 use Rattle.words.specs.Partner.{PartnerPromise}
-use Rattle.words.specs.declared.Partnered.{Partnered}
-use Rattle.words.specs.declared.Partnered.TheVariants as partnered
 use Rattle.elements.specs.Elements.{Bytes}
 use Rattle.machine.specs.Execute.{ExecutePromise}
 use Rattle.machine.specs.declared.Executed.{Executed}
@@ -22,13 +21,13 @@ pub data Calls (P : Promise) : List ℕ → List ℕ → List ℕ → List Execu
       → P w z za r z₁ za₁ → Calls P ws z₁ za₁ rs z₂ za₂ → Calls P (w ∷ ws) z za (r ∷ rs) z₂ za₂
 
 -- what a caller does with the answer of `partner`: a word is executed, and a refusal is passed on
-abbrev pub Followed : Settings → Partnered → List ℕ → List ℕ → Executed → List ℕ → List ℕ → Type 0
-Followed s (partnered.Word v) z za r z' za' = ExecutePromise s v z za r z' za'
-Followed s (partnered.Refused q) z za r z' za' = (r ≡ Refused q) × (z' ≡ z) × (za' ≡ za)
+abbrev pub Followed : Settings → Result ℕ Refusal → List ℕ → List ℕ → Executed → List ℕ → List ℕ → Type 0
+Followed s (Ok v) z za r z' za' = ExecutePromise s v z za r z' za'
+Followed s (Err q) z za r z' za' = (r ≡ Refused q) × (z' ≡ z) × (za' ≡ za)
 
 -- the two calls for a word of the way back
 pub record UndoCalls (s : Settings) (w : ℕ) (z za : List ℕ) (r : Executed) (z' za' : List ℕ) : Type 0 where
-  pub asked : Partnered
+  pub asked : Result ℕ Refusal
   pub promised : PartnerPromise s w asked
   pub followed : Followed s asked z za r z' za'
 

@@ -2,16 +2,17 @@
 use Prim.Native.Nat.{ℕ, ◌^◌, ◌<◌}
 use mathlib.Core.Path.{◌≡◌, refl, sym, ap, ◌∙◌}
 use native.Mathlib.Omega.{arith}
+use Rattle.std.specs.Prelude.{Result}
 use Rattle.laws.proofs.Tests.{never_both}
+use Rattle.settings.specs.Refused.{word_says}
+use Rattle.settings.specs.declared.Refusal.{Refusal}
 use Rattle.settings.specs.declared.Settings.{Settings}
-use Rattle.settings.proofs.Refusals.{refused_not_0, refused_known}
+use Rattle.settings.proofs.Refusals.{word_known}
 use Rattle.words.specs.Says.{describe}
 use Rattle.words.specs.Decode.{decode_paper}
 use Rattle.words.specs.declared.Fields.{Fields}
 use Rattle.words.proofs.Answers.{Accepted, decodes_exactly}
-use Rattle.encoding.specs.Encode.{Encodes, bad_settings, no_word, not_enabled, a_word, Has, encoded_says}
-use Rattle.encoding.specs.declared.Encoded.{Encoded}
-use Rattle.encoding.specs.declared.Encoded.TheVariants.{Word, Refused}
+use Rattle.encoding.specs.Encode.{Encodes, bad_settings, no_word, not_enabled, a_word, Has}
 use Rattle.encoding.proofs.Only.{only}
 
 -- ---- the promise determines the answer
@@ -38,16 +39,9 @@ encodes_unique s f a b (a_word _ w h _) (no_word _ none) = absurd (none w h)
 encodes_unique s f a b (a_word _ _ _ p) (not_enabled _ _ _ q) = absurd (never_both _ p q)
 encodes_unique s f a b (a_word _ v g _) (a_word _ w h _) = ap (λ (x : ℕ). (0, x)) (one_word f v w g h)
 
--- the answer is known by its number and its word
-says_known : (r q : Encoded) → encoded_says r ≡ encoded_says q → r ≡ q
-says_known (Word v) (Word w) e = ap Word (ap (λ (a : ℕ × ℕ). a.1) e)
-says_known (Word v) (Refused q) e = absurd (refused_not_0 {A = ℕ} q 0 v (sym e))
-says_known (Refused r) (Word w) e = absurd (refused_not_0 {A = ℕ} r 0 w e)
-says_known (Refused r) (Refused q) e = ap Refused (refused_known {A = ℕ} r q 0 0 e)
-
 -- any two answers that encode's promise allows are equal
-pub encode_unique : (s : Settings) (f : Fields) (r q : Encoded) → Encodes s f (encoded_says r) → Encodes s f (encoded_says q) → r ≡ q
-encode_unique s f r q a b = says_known r q (encodes_unique s f (encoded_says r) (encoded_says q) a b)
+pub encode_unique : (s : Settings) (f : Fields) (r q : Result ℕ Refusal) → Encodes s f (word_says r) → Encodes s f (word_says q) → r ≡ q
+encode_unique s f r q a b = word_known r q (encodes_unique s f (word_says r) (word_says q) a b)
 
 -- ---- encode and decode
 

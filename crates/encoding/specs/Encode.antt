@@ -1,18 +1,10 @@
 -- Document 01, "Refusal numbers": what encode answers, said by what words say and by nothing else.
 use Rattle.std.specs.Prelude.{ℕ, ◌<◌, ◌≤◌, ◌^◌, ◌≡◌, true, false}
 use Rattle.settings.specs.Valid.{valid_settings}
-use Rattle.settings.specs.Refused.{refusal_number}
 use Rattle.settings.specs.declared.Settings.{Settings}
 use Rattle.words.specs.Says.{As, describe}
 use Rattle.words.specs.Decode.{enables}
 use Rattle.words.specs.declared.Fields.{Fields}
-use Rattle.encoding.specs.declared.Encoded.{Encoded}
-use Rattle.encoding.specs.declared.Encoded.TheVariants.{Word, Refused}
-
--- the number and the word of an answer
-abbrev pub encoded_says : Encoded → ℕ × ℕ
-encoded_says (Word w) = (0, w)
-encoded_says (Refused r) = (refusal_number r, 0)
 
 -- a word of 32 bits has exactly these fields
 pub record Has (f : Fields) (w : ℕ) : Type 0 where

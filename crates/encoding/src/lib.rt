@@ -1,21 +1,16 @@
 #![tactic(auto)]
 
 ghost use Rattle.std.specs.Prelude.{◌≡◌, ◌<◌};
+ghost use Rattle.settings.specs.Refused.{word_says};
 ghost use Rattle.layouts.specs.Layout.{build};
 ghost use Rattle.words.specs.Rows.{row_a, row_b, row_c16, row_c32, row_d2, row_d4, row_e2, row_e4};
 ghost use Rattle.words.specs.Says.{describe};
-ghost use Rattle.encoding.specs.Encode.{Has, Encodes, encoded_says, TheWord};
+ghost use Rattle.encoding.specs.Encode.{Has, Encodes, TheWord};
 ghost use Rattle.encoding.specs.Candidate.{values_a, values_a16, values_a32, values_b, low_c, values_c, values_c16, values_c32, low_za2, low_za4, values_za, values_d, values_e, candidate_of, same_family, same_of, says_only};
 
 use layouts::*;
 use settings::{Refusal, Settings};
 use words::{Family, Fields};
-
-#[derive(Clone, Copy)]
-pub enum Encoded {
-    Word(u32),
-    Refused(Refusal),
-}
 
 // A word of family A, of the values of ss, L, M, mmmm and H.
 fn word_a(f: Fields, s: u32, l: u32, m: u32, low: u32, h: u32) -> u32
@@ -259,19 +254,19 @@ pub fn word_with(f: Fields) -> u64
 }
 
 // The word that has exactly these fields. Refusals 1, 5, 3.
-pub fn encode(settings: Settings, fields: Fields) -> Encoded
-    ensures { Encodes settings fields (encoded_says result) }
+pub fn encode(settings: Settings, fields: Fields) -> Result<u32, Refusal>
+    ensures { Encodes settings fields (word_says result) }
 {
     if settings.valid() {
         let word = word_with(fields);
         if word < NO_WORD {
             let features = settings.features;
             if words::enables(features, fields) {
-                return Encoded::Word(word as u32);
+                return Ok(word as u32);
             }
-            return Encoded::Refused(Refusal::UnknownWord);
+            return Err(Refusal::UnknownWord);
         }
-        return Encoded::Refused(Refusal::NoSuchWord);
+        return Err(Refusal::NoSuchWord);
     }
-    Encoded::Refused(Refusal::BadSettings)
+    Err(Refusal::BadSettings)
 }

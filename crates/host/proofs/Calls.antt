@@ -4,14 +4,12 @@ use Prim.Native.Nat.{ℕ, ◌<◌, ◌^◌}
 use native.Mathlib.Omega.{arith}
 use mathlib.Core.Path.{◌≡◌, ap, ◌∙◌}
 use mathlib.Core.List.{List}
+use Rattle.std.specs.Prelude.{Result}
+use Rattle.settings.specs.Refused.{word_says}
+use Rattle.settings.specs.declared.Refusal.{Refusal}
 use Rattle.settings.specs.declared.Settings.{Settings}
 use Rattle.words.specs.Decode.{decoded_says}
-use Rattle.words.specs.Partner.{partnered_says}
 use Rattle.words.specs.declared.Fields.{Fields}
-use Rattle.words.specs.declared.Decoded.{Decoded}
-use Rattle.words.specs.declared.Partnered.{Partnered}
-use Rattle.encoding.specs.Encode.{encoded_says}
-use Rattle.encoding.specs.declared.Encoded.{Encoded}
 use Rattle.machine.specs.Execute.{Outcome}
 use Rattle.machine.specs.declared.Executed.{Executed}
 use Rattle.runlist.specs.Plan.{settings_of}
@@ -29,20 +27,20 @@ use Rattle.packing.specs.Packing.{halves, fields_from, decoded_into, executed_in
 use Rattle.host.specs.Host.{host_decode, HostDecode, EncodesNumbers, HostEncode, HostPartner, host_execute, HostExecute, host_run, HostRun, HostPrint, HostRead}
 
 module _ (settings : List ℕ) (s : Settings) (e : s ≡ settings_of settings) where
-  pub decode_said : (word : ℕ) (fields fields' : List ℕ) (a : Decoded) (r : ℕ) → DecodePromise s word a
+  pub decode_said : (word : ℕ) (fields fields' : List ℕ) (a : Result Fields Refusal) (r : ℕ) → DecodePromise s word a
       → (halves r, fields') ≡ decoded_into (decoded_says a) fields → HostDecode settings word fields r fields'
   unfolding host_decode
   decode_said word fields fields' a r p h =
       rw (← e) (h ∙ ap (λ (d : ℕ × Fields). decoded_into d fields) p)
 
-  pub encode_said : (fields : List ℕ) (f : Fields) (a : Encoded) (r : ℕ) → fields_from fields ≡ Some f → EncodePromise s f a
-      → halves r ≡ encoded_says a → HostEncode settings fields r
+  pub encode_said : (fields : List ℕ) (f : Fields) (a : Result ℕ Refusal) (r : ℕ) → fields_from fields ≡ Some f → EncodePromise s f a
+      → halves r ≡ word_says a → HostEncode settings fields r
   encode_said fields f a r g p h = rw (← e, g, h) p
 
   pub encode_nothing : (fields : List ℕ) (r : ℕ) → fields_from fields ≡ None → EncodesNumbers s None (halves r) → HostEncode settings fields r
   encode_nothing fields r g p = rw (← e, g) p
 
-  pub partner_said : (word : ℕ) (a : Partnered) (r : ℕ) → PartnerPromise s word a → halves r ≡ partnered_says a → HostPartner settings word r
+  pub partner_said : (word : ℕ) (a : Result ℕ Refusal) (r : ℕ) → PartnerPromise s word a → halves r ≡ word_says a → HostPartner settings word r
   partner_said word a r p h = rw (← e) (h ∙ p)
 
   pub execute_said : (word : ℕ) (z za counts : List ℕ) (a : Executed) (r : ℕ) (z' za' counts' : List ℕ) → ExecutePromise s word z za a z' za'

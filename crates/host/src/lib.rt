@@ -20,7 +20,7 @@ pub fn callinglamp_encode(settings: &[u32; 7], fields: &[u32; 12]) -> u64
 {
     let given = runlist::settings_of(settings);
     match packing::fields_from(fields) {
-        Some(asked) => packing::encoded(callinglamp::encode(given, asked)),
+        Some(asked) => packing::word_answer(callinglamp::encode(given, asked)),
         None => packing::no_fields(given),
     }
 }
@@ -29,7 +29,7 @@ pub fn callinglamp_encode(settings: &[u32; 7], fields: &[u32; 12]) -> u64
 pub fn callinglamp_partner(settings: &[u32; 7], word: u32) -> u64
     ensures { HostPartner settings.now word result }
 {
-    packing::partnered(callinglamp::partner(runlist::settings_of(settings), word))
+    packing::word_answer(callinglamp::partner(runlist::settings_of(settings), word))
 }
 
 // Executes one word on Z and ZA; `counts` takes rises, falls and written. Refusals 1, 2, 3, 4.

@@ -6,14 +6,13 @@ use mathlib.Core.Bool.{true, false}
 use mathlib.Core.List.{List, [], ◌∷◌}
 use lib.ListN.{get_or}
 use lib.Arith.{digits_div, digits_mod}
+use Rattle.std.specs.Prelude.{Result, Ok, Err}
 use Rattle.laws.proofs.Tests.{cond_yes, cond_no}
 use Rattle.settings.specs.Refused.{refusal_number}
 use Rattle.settings.specs.declared.Refusal.{Refusal}
 use Rattle.settings.proofs.Refusals.{tests_not_0}
 use Rattle.words.specs.Decode.{decoded_says}
 use Rattle.words.specs.declared.Fields.{Fields}
-use Rattle.words.specs.declared.Decoded.{Decoded}
-use Rattle.words.specs.declared.Decoded.TheVariants as decoded
 use Rattle.machine.specs.declared.Counts.{Counts}
 use Rattle.machine.specs.declared.Executed.{Executed}
 use Rattle.machine.specs.declared.Executed.TheVariants as executed
@@ -42,12 +41,12 @@ module _ (n : List ℕ) where
 
 -- ---- decode
 
-module _ (a : Decoded) (fields : List ℕ) where
-  pub decoded_refused : (x : Refusal) (r : ℕ) → a ≡ decoded.Refused x → halves r ≡ (refusal_number x, 0)
+module _ (a : Result Fields Refusal) (fields : List ℕ) where
+  pub decoded_refused : (x : Refusal) (r : ℕ) → a ≡ Err x → halves r ≡ (refusal_number x, 0)
       → (halves r, fields) ≡ decoded_into (decoded_says a) fields
   decoded_refused x r e h = rw (e, tests_not_0 x) (ap (λ (p : ℕ × ℕ). (p, fields)) h)
 
-  pub decoded_word : (f : Fields) (fields' : List ℕ) → a ≡ decoded.Word f → fields' ≡ field_numbers f
+  pub decoded_word : (f : Fields) (fields' : List ℕ) → a ≡ Ok f → fields' ≡ field_numbers f
       → (halves 0, fields') ≡ decoded_into (decoded_says a) fields
   decoded_word f fields' e h = rw e (ap (λ (n : List ℕ). (halves 0, n)) h)
 

@@ -3,21 +3,18 @@
 
 ghost use Rattle.std.specs.Prelude.{◌≡◌, cond};
 ghost use Rattle.settings.specs.Valid.{valid_settings};
-ghost use Rattle.settings.specs.Refused.{refusal_number};
+ghost use Rattle.settings.specs.Refused.{refusal_number, word_says};
 ghost use Rattle.words.specs.Numbers.{family_of};
 ghost use Rattle.words.specs.Decode.{decoded_says};
-ghost use Rattle.words.specs.Partner.{partnered_says};
-ghost use Rattle.encoding.specs.Encode.{encoded_says};
 ghost use Rattle.spelling.specs.Print.{printed_says};
 ghost use Rattle.spelling.specs.Language.{read_says};
 ghost use Rattle.packing.specs.Packing.{halves, field_numbers, are_fields, fields_with, fields_from, decoded_into, ExecutedPut, FitsHalf, RanPut, TextFits};
 
-use encoding::Encoded;
 use machine::Executed;
 use runlist::RunAnswer;
 use settings::{Refusal, Settings};
 use spelling::{Printed, WordRead};
-use words::{Decoded, Family, Fields, Partnered};
+use words::{Family, Fields};
 
 // What 1 in the high half of an answer counts.
 const HIGH_HALF: u64 = 4294967296;
@@ -133,24 +130,25 @@ pub fn fields_from(numbers: &[u32; 12]) -> Option<Fields>
 }
 
 // An answer, as numbers: a word's fields go into `fields`.
-pub fn decoded(answer: Decoded, fields: &mut [u32; 12]) -> u64
+pub fn decoded(answer: Result<Fields, Refusal>, fields: &mut [u32; 12]) -> u64
     ensures { (halves result, fields.new) ≡ decoded_into (decoded_says answer) fields.old }
 {
     match answer {
-        Decoded::Refused(refusal) => refused(refusal, 0),
-        Decoded::Word(found) => {
+        Err(refusal) => refused(refusal, 0),
+        Ok(found) => {
             put_fields(found, fields);
             0
         }
     }
 }
 
-pub fn encoded(answer: Encoded) -> u64
-    ensures { halves result ≡ encoded_says answer }
+// The answer of a call that gives a word: of encode, of partner.
+pub fn word_answer(answer: Result<u32, Refusal>) -> u64
+    ensures { halves result ≡ word_says answer }
 {
     match answer {
-        Encoded::Refused(refusal) => refused(refusal, 0),
-        Encoded::Word(word) => of_halves(0, word),
+        Ok(word) => of_halves(0, word),
+        Err(reason) => refused(reason, 0),
     }
 }
 
@@ -162,15 +160,6 @@ pub fn no_fields(settings: Settings) -> u64
         return refused(Refusal::NoSuchWord, 0);
     }
     refused(Refusal::BadSettings, 0)
-}
-
-pub fn partnered(answer: Partnered) -> u64
-    ensures { halves result ≡ partnered_says answer }
-{
-    match answer {
-        Partnered::Refused(refusal) => refused(refusal, 0),
-        Partnered::Word(word) => of_halves(0, word),
-    }
 }
 
 pub fn executed(answer: Executed, counts: &mut [u32; 3]) -> u64

@@ -6,7 +6,8 @@ use mathlib.Core.Bool.{false, cond}
 use native.Mathlib.Omega.{arith}
 use lib.Dec.{eqb}
 use borrow.Author.Tests.{ne_eqb}
-use Rattle.settings.specs.Refused.{refusal_number}
+use Rattle.std.specs.Prelude.{Result, Ok, Err}
+use Rattle.settings.specs.Refused.{refusal_number, word_says}
 use Rattle.settings.specs.declared.Refusal.{Refusal}
 use Rattle.settings.specs.declared.Refusal.TheVariants.{BadSettings, BadLength, UnknownWord, WrongMode, NoSuchWord, NoPartner, ListEnds, BadNumber, TooManyWords, ExtraBytes, NotText, ShortRoom}
 
@@ -70,3 +71,10 @@ refused_not_0 {A} r x y e = let n : refusal_number r ≡ 0 = ap (λ (p : ℕ × 
 -- and two refusals that say the same are the same
 pub refused_known : {A : Type 0} (r q : Refusal) (x y : A) → ◌≡◌ {A = ℕ × A} (refusal_number r, x) (refusal_number q, y) → r ≡ q
 refused_known {A} r q x y e = refusal_known r q (ap (λ (p : ℕ × A). p.0) e)
+
+-- an answer that is a word is known by its number and its word
+pub word_known : (r q : Result ℕ Refusal) → word_says r ≡ word_says q → r ≡ q
+word_known (Ok v) (Ok w) e = ap Ok (ap (λ (p : ℕ × ℕ). p.1) e)
+word_known (Ok v) (Err q) e = absurd (refused_not_0 {A = ℕ} q 0 v (sym e))
+word_known (Err r) (Ok w) e = absurd (refused_not_0 {A = ℕ} r 0 w e)
+word_known (Err r) (Err q) e = ap Err (refused_known {A = ℕ} r q 0 0 e)

@@ -14,7 +14,7 @@ ghost use Rattle.spelling.specs.Candidate.{all_rows, start_at, family_at, row_la
 ghost use Rattle.spelling.specs.Tried.{Figures, SpellsBy};
 
 use settings::{Refusal, Settings};
-use words::{Decoded, Family, Fields};
+use words::{Family, Fields};
 
 // What `print` answers: the length of the text, or a refusal.
 #[derive(Clone, Copy)]
@@ -204,8 +204,8 @@ pub fn print(settings: Settings, word: u32, room: &mut [u8]) -> Printed
 {
     let decoded = words::decode(settings, word);
     match decoded {
-        Decoded::Word(f) => print_fields(room, f),
-        Decoded::Refused(r) => Printed::Refused(r),
+        Ok(f) => print_fields(room, f),
+        Err(r) => Printed::Refused(r),
     }
 }
 
@@ -376,7 +376,7 @@ pub fn read(settings: Settings, text: &[u8]) -> WordRead
     let found = word as u32;
     let decoded = words::decode(settings, found);
     match decoded {
-        Decoded::Word(_) => WordRead::Word(found),
-        Decoded::Refused(r) => WordRead::Refused(r),
+        Ok(_) => WordRead::Word(found),
+        Err(r) => WordRead::Refused(r),
     }
 }

@@ -4,12 +4,11 @@
 
 ghost use Rattle.std.specs.Prelude.{◌≡◌, ◌<◌, ◌≤◌, length, take};
 
-use encoding::Encoded;
-use settings::{Features, Modes, Settings};
+use settings::{Features, Modes, Refusal, Settings};
 use spelling::{Printed, WordRead};
 use std::io;
 use std::io::Read;
-use words::{Decoded, Fields, Partnered};
+use words::Fields;
 
 const ALL_FEATURES: u32 = 31;
 // An answer that is no refusal number: decode found other fields than the line's, encode or read another word than is due,
@@ -82,11 +81,11 @@ fn settings_with(vl: u32, features: u32) -> Settings {
 }
 
 // What decode and partner answer where nothing is missing.
-fn decoded(word: u32) -> Decoded {
+fn decoded(word: u32) -> Result<Fields, Refusal> {
     words::decode(settings_with(128, ALL_FEATURES), word)
 }
 
-fn partnered(word: u32) -> Partnered {
+fn partnered(word: u32) -> Result<u32, Refusal> {
     words::partner(settings_with(128, ALL_FEATURES), word)
 }
 
@@ -115,8 +114,8 @@ fn answer_if(right: bool, answer: u32) -> u32 {
 // else the number of its refusal.
 fn answer(line: &[u8], vl: u32, features: u32) -> u32 {
     match words::decode(settings_with(vl, features), word_of(line)) {
-        Decoded::Word(fields) => answer_if(has_fields(line, fields), 0),
-        Decoded::Refused(refusal) => settings::refusal_number(refusal),
+        Ok(fields) => answer_if(has_fields(line, fields), 0),
+        Err(refusal) => settings::refusal_number(refusal),
     }
 }
 
@@ -150,8 +149,8 @@ fn is_taken_by_sets(line: &[u8]) -> bool {
 // What encode makes of fields: the number of its refusal, or 0 with a word, which must be the one that is due.
 fn encode_answer(settings: Settings, fields: Fields, due: u32) -> u32 {
     match encoding::encode(settings, fields) {
-        Encoded::Word(word) => answer_if(word == due, 0),
-        Encoded::Refused(refusal) => settings::refusal_number(refusal),
+        Ok(word) => answer_if(word == due, 0),
+        Err(refusal) => settings::refusal_number(refusal),
     }
 }
 
@@ -204,8 +203,8 @@ fn encodes_to(fields: Fields, word: u32) -> bool {
 fn is_encoded(line: &[u8]) -> bool {
     let word = word_of(line);
     match decoded(word) {
-        Decoded::Word(fields) => encodes_to(fields, word),
-        Decoded::Refused(_) => true,
+        Ok(fields) => encodes_to(fields, word),
+        Err(_) => true,
     }
 }
 
@@ -217,15 +216,15 @@ fn flipped(mut fields: Fields) -> Fields {
 // Whether decode describes the word by the line's fields with subtract flipped.
 fn is_flipped(line: &[u8], word: u32) -> bool {
     match decoded(word) {
-        Decoded::Word(fields) => has_fields(line, flipped(fields)),
-        Decoded::Refused(_) => false,
+        Ok(fields) => has_fields(line, flipped(fields)),
+        Err(_) => false,
     }
 }
 
 fn has_partner(word: u32, other: u32) -> bool {
     match partnered(word) {
-        Partnered::Word(found) => found == other,
-        Partnered::Refused(_) => false,
+        Ok(found) => found == other,
+        Err(_) => false,
     }
 }
 
@@ -242,8 +241,8 @@ fn is_partnered(line: &[u8]) -> bool {
     let word = word_of(line);
     let due = partner_refusal(family_of(line));
     match partnered(word) {
-        Partnered::Word(other) => (due == 0) & is_flipped(line, other) & has_partner(other, word),
-        Partnered::Refused(refusal) => settings::refusal_number(refusal) == due,
+        Ok(other) => (due == 0) & is_flipped(line, other) & has_partner(other, word),
+        Err(refusal) => settings::refusal_number(refusal) == due,
     }
 }
 
@@ -353,8 +352,8 @@ fn described_in(line: &[u8]) -> usize
     ensures { result < 2 }
 {
     match decoded(word_of(line)) {
-        Decoded::Word(_) => 1,
-        Decoded::Refused(_) => 0,
+        Ok(_) => 1,
+        Err(_) => 0,
     }
 }
 

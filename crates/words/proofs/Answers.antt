@@ -6,47 +6,40 @@ use mathlib.Core.Logic.{◌↔◌, ◌≢◌}
 use mathlib.Core.Bool.{true, false}
 use borrow.Author.Tests.{ne_eqb}
 use Rattle.laws.proofs.Tests.{never_both, by_cond}
+use Rattle.std.specs.Prelude.{Result, Ok, Err}
 use Rattle.settings.specs.Valid.{valid_settings}
+use Rattle.settings.specs.Refused.{word_says}
+use Rattle.settings.specs.declared.Refusal.{Refusal}
 use Rattle.settings.specs.declared.Settings.{Settings}
-use Rattle.settings.proofs.Refusals.{refused_not_0, refused_known}
+use Rattle.settings.proofs.Refusals.{refused_not_0, refused_known, word_known}
 use Rattle.words.specs.Says.{Described, As, Nothing, table, describe, SaidBy}
 use Rattle.words.specs.Decode.{enables, no_fields, decoded_says, enabled_only, decode_enabled, decode_paper}
 use Rattle.words.specs.Kinds.{fields_as, says_as, family_as, enables_said}
-use Rattle.words.specs.Partner.{partner_word, turned, is_c, partnered_says, partner_paper}
+use Rattle.words.specs.Partner.{partner_word, turned, is_c, partner_paper}
 use Rattle.words.specs.Sign.{partner_in}
 use Rattle.words.specs.declared.Family.{Family}
 use Rattle.words.specs.declared.Family.TheVariants.{ByElement, Vector, Saturating, LongLong, Long}
 use Rattle.words.specs.declared.Fields.{Fields}
 use Rattle.words.specs.declared.Kind.{Kind}
-use Rattle.words.specs.declared.Decoded.{Decoded}
-use Rattle.words.specs.declared.Decoded.TheVariants.{Word, Refused}
-use Rattle.words.specs.declared.Partnered as partnered
-use Rattle.words.specs.declared.Partnered.TheVariants.{Word as Partner, Refused as NotPartnered}
 use Rattle.words.proofs.Table.{described_exactly}
 use Rattle.words.proofs.ByKind.{family_as_lem, kind_refused, kind_enabled}
 use Rattle.words.proofs.Partners.{partner-turned, partner_back, partner_sign}
 
 -- ---- each answer is determined by its promise
 
-decoded_known : (r q : Decoded) → decoded_says r ≡ decoded_says q → r ≡ q
-decoded_known (Word f) (Word g) e = ap Word (ap (λ (p : ℕ × Fields). p.1) e)
-decoded_known (Word f) (Refused q) e = absurd (refused_not_0 q no_fields f (sym e))
-decoded_known (Refused r) (Word g) e = absurd (refused_not_0 r no_fields g e)
-decoded_known (Refused r) (Refused q) e = ap Refused (refused_known r q no_fields no_fields e)
+decoded_known : (r q : Result Fields Refusal) → decoded_says r ≡ decoded_says q → r ≡ q
+decoded_known (Ok f) (Ok g) e = ap Ok (ap (λ (p : ℕ × Fields). p.1) e)
+decoded_known (Ok f) (Err q) e = absurd (refused_not_0 q no_fields f (sym e))
+decoded_known (Err r) (Ok g) e = absurd (refused_not_0 r no_fields g e)
+decoded_known (Err r) (Err q) e = ap Err (refused_known r q no_fields no_fields e)
 
 -- any two answers that decode's promise allows are equal
-pub decode_unique : (s : Settings) (w : ℕ) (r q : Decoded) → decoded_says r ≡ decode_paper s w → decoded_says q ≡ decode_paper s w → r ≡ q
+pub decode_unique : (s : Settings) (w : ℕ) (r q : Result Fields Refusal) → decoded_says r ≡ decode_paper s w → decoded_says q ≡ decode_paper s w → r ≡ q
 decode_unique s w r q e g = decoded_known r q (e ∙ sym g)
 
-partnered_known : (r q : partnered.Partnered) → partnered_says r ≡ partnered_says q → r ≡ q
-partnered_known (Partner v) (Partner w) e = ap Partner (ap (λ (p : ℕ × ℕ). p.1) e)
-partnered_known (Partner v) (NotPartnered q) e = absurd (refused_not_0 {A = ℕ} q 0 v (sym e))
-partnered_known (NotPartnered r) (Partner w) e = absurd (refused_not_0 {A = ℕ} r 0 w e)
-partnered_known (NotPartnered r) (NotPartnered q) e = ap NotPartnered (refused_known {A = ℕ} r q 0 0 e)
-
 -- any two answers that partner's promise allows are equal
-pub partner_unique : (s : Settings) (w : ℕ) (r q : partnered.Partnered) → partnered_says r ≡ partner_paper s w → partnered_says q ≡ partner_paper s w → r ≡ q
-partner_unique s w r q e g = partnered_known r q (e ∙ sym g)
+pub partner_unique : (s : Settings) (w : ℕ) (r q : Result ℕ Refusal) → word_says r ≡ partner_paper s w → word_says q ≡ partner_paper s w → r ≡ q
+partner_unique s w r q e g = word_known r q (e ∙ sym g)
 
 -- ---- an accepted word
 

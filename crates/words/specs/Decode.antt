@@ -1,15 +1,14 @@
 -- Document 01, "Features", and what decode answers.
-use Rattle.std.specs.Prelude.{ℕ, Bool, false, ◌&&◌, ◌||◌, cond, eqb}
+use Rattle.std.specs.Prelude.{ℕ, Bool, false, ◌&&◌, ◌||◌, cond, eqb, Result, Ok, Err}
 use Rattle.settings.specs.Sets.{has_features, adv_simd, sve2, sme, sme2, i16i64}
 use Rattle.settings.specs.Valid.{valid_settings}
 use Rattle.settings.specs.Refused.{refusal_number}
+use Rattle.settings.specs.declared.Refusal.{Refusal}
 use Rattle.settings.specs.declared.Settings.{Settings}
 use Rattle.words.specs.Says.{Described, As, Nothing, describe}
 use Rattle.words.specs.declared.Family.{Family}
 use Rattle.words.specs.declared.Family.TheVariants.{ByElement, Vector, Saturating, LongLong, Long}
 use Rattle.words.specs.declared.Fields.{Fields}
-use Rattle.words.specs.declared.Decoded.{Decoded}
-use Rattle.words.specs.declared.Decoded.TheVariants.{Word, Refused}
 
 -- A, B need AdvSIMD. C needs SVE2 or SME. D, E need SME2; D with z=1, which is lane 16, also I16I64
 abbrev pub enables_family : ℕ → Family → ℕ → Bool
@@ -42,9 +41,9 @@ no_fields =
     }
 
 -- the number and the fields of an answer
-abbrev pub decoded_says : Decoded → ℕ × Fields
-decoded_says (Word f) = (0, f)
-decoded_says (Refused r) = (refusal_number r, no_fields)
+abbrev pub decoded_says : Result Fields Refusal → ℕ × Fields
+decoded_says (Ok f) = (0, f)
+decoded_says (Err r) = (refusal_number r, no_fields)
 
 -- 3 where no layout matches, the size is reserved, or a feature is missing
 abbrev pub enabled_only : ℕ → Described → ℕ × Fields

@@ -1,15 +1,14 @@
 -- Document 01: the partner of a word is the word with S flipped.
-use Rattle.std.specs.Prelude.{ℕ, Bool, true, false, not, cond, List, [], ◌∷◌, ◌≡◌, eqb}
+use Rattle.std.specs.Prelude.{ℕ, Bool, true, false, not, cond, List, [], ◌∷◌, ◌≡◌, eqb, Result}
 use Rattle.layouts.specs.Layout.{matches, flip}
-use Rattle.settings.specs.Refused.{refusal_number}
+use Rattle.settings.specs.Refused.{word_says}
+use Rattle.settings.specs.declared.Refusal.{Refusal}
 use Rattle.settings.specs.declared.Settings.{Settings}
 use Rattle.words.specs.Says.{Row, table}
 use Rattle.words.specs.Decode.{decode_paper}
 use Rattle.words.specs.declared.Family.{Family}
 use Rattle.words.specs.declared.Family.TheVariants.{ByElement, Vector, Saturating, LongLong, Long}
 use Rattle.words.specs.declared.Fields.{Fields}
-use Rattle.words.specs.declared.Partnered.{Partnered}
-use Rattle.words.specs.declared.Partnered.TheVariants.{Word, Refused}
 
 -- the word with the S of the first row that matches flipped
 abbrev pub flip_first : List Row → ℕ → ℕ
@@ -37,11 +36,6 @@ turned f =
       offset = f.offset;
     }
 
--- the number and the word of an answer
-abbrev pub partnered_says : Partnered → ℕ × ℕ
-partnered_says (Word w) = (0, w)
-partnered_says (Refused r) = (refusal_number r, 0)
-
 -- whether the family is C
 abbrev pub is_c : Family → Bool
 is_c ByElement = false
@@ -59,5 +53,5 @@ unfoldable pub partner_paper : Settings → ℕ → ℕ × ℕ
 partner_paper s w = partner_after (decode_paper s w) w
 
 -- what `partner` promises of its answer
-abbrev pub PartnerPromise : Settings → ℕ → Partnered → Type 0
-PartnerPromise s w r = partnered_says r ≡ partner_paper s w
+abbrev pub PartnerPromise : Settings → ℕ → Result ℕ Refusal → Type 0
+PartnerPromise s w r = word_says r ≡ partner_paper s w

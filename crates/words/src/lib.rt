@@ -7,7 +7,8 @@ ghost use Rattle.words.specs.Rows.{row_a, row_b, row_c16, row_c32, row_d2, row_d
 ghost use Rattle.words.specs.Says.{by_element, fields_a16, fields_a32, by_vector, saturating, fields_c, into_za, fields_d, fields_e, As, entry_a, entry_b, table_c, table_za, says_of, says_first, describe as describe_paper};
 ghost use Rattle.words.specs.Decode.{enables_family, enables as enables_paper, decoded_says, decode_paper};
 ghost use Rattle.words.specs.Kinds.{fields_as, says_as, family_as, enables_said, answer_to};
-ghost use Rattle.words.specs.Partner.{partnered_says, PartnerPromise};
+ghost use Rattle.settings.specs.Refused.{word_says};
+ghost use Rattle.words.specs.Partner.{PartnerPromise};
 ghost use Rattle.words.specs.Sign.{partner_in};
 
 use layouts::*;
@@ -64,18 +65,6 @@ pub enum Kind {
     Long4,
     // No layout matches, or the size is reserved.
     Nothing,
-}
-
-#[derive(Clone, Copy)]
-pub enum Decoded {
-    Word(Fields),
-    Refused(Refusal),
-}
-
-#[derive(Clone, Copy)]
-pub enum Partnered {
-    Word(u32),
-    Refused(Refusal),
 }
 
 // A family by its number.
@@ -519,63 +508,63 @@ pub fn enables_kind(features: Features, kind: Kind, w: u32) -> bool
 
 // The answer to an enabled word of the kind. Each answer is made where it is returned, since fields that pass from one
 // answer into another are copied, which costs more than finding them.
-fn decoded_as(kind: Kind, word: u32) -> Decoded
+fn decoded_as(kind: Kind, word: u32) -> Result<Fields, Refusal>
     requires { describe_paper word ≡ says_as kind word }
     ensures { decoded_says result ≡ answer_to (says_as kind word) }
 {
     match kind {
-        Kind::ByElement16 => Decoded::Word(fields_a16(word)),
-        Kind::ByElement32 => Decoded::Word(fields_a32(word)),
-        Kind::Vector => Decoded::Word(fields_b(word, lane_b(word / BIT_22 % 4))),
-        Kind::Saturating16 => Decoded::Word(fields_c16(word)),
-        Kind::Saturating32 => Decoded::Word(fields_c32(word)),
-        Kind::LongLong2 => Decoded::Word(fields_d2(word)),
-        Kind::LongLong4 => Decoded::Word(fields_d4(word)),
-        Kind::Long2 => Decoded::Word(fields_e2(word)),
-        Kind::Long4 => Decoded::Word(fields_e4(word)),
-        Kind::Nothing => Decoded::Refused(Refusal::UnknownWord),
+        Kind::ByElement16 => Ok(fields_a16(word)),
+        Kind::ByElement32 => Ok(fields_a32(word)),
+        Kind::Vector => Ok(fields_b(word, lane_b(word / BIT_22 % 4))),
+        Kind::Saturating16 => Ok(fields_c16(word)),
+        Kind::Saturating32 => Ok(fields_c32(word)),
+        Kind::LongLong2 => Ok(fields_d2(word)),
+        Kind::LongLong4 => Ok(fields_d4(word)),
+        Kind::Long2 => Ok(fields_e2(word)),
+        Kind::Long4 => Ok(fields_e4(word)),
+        Kind::Nothing => Err(Refusal::UnknownWord),
     }
 }
 
 // The fields of a word. Refusals 1, 3.
-pub fn decode(settings: Settings, word: u32) -> Decoded
+pub fn decode(settings: Settings, word: u32) -> Result<Fields, Refusal>
     ensures { decoded_says result ≡ decode_paper settings word }
 {
     if !settings.valid() {
-        return Decoded::Refused(Refusal::BadSettings);
+        return Err(Refusal::BadSettings);
     }
     let features = settings.features;
     let kind = kind_of(word);
     if enables_kind(features, kind, word) {
         return decoded_as(kind, word);
     }
-    Decoded::Refused(Refusal::UnknownWord)
+    Err(Refusal::UnknownWord)
 }
 
 // The partner of a word of the family: S stands at one bit in all layouts of a family.
-fn partner_in(family: Family, word: u32) -> Partnered
-    ensures { partnered_says result ≡ partner_in family word }
+fn partner_in(family: Family, word: u32) -> Result<u32, Refusal>
+    ensures { word_says result ≡ partner_in family word }
 {
     match family {
-        Family::ByElement => Partnered::Word(word ^ BIT_14),
-        Family::Vector => Partnered::Word(word ^ BIT_13),
-        Family::Saturating => Partnered::Refused(Refusal::NoPartner),
-        Family::LongLong => Partnered::Word(word ^ BIT_3),
-        Family::Long => Partnered::Word(word ^ BIT_3),
+        Family::ByElement => Ok(word ^ BIT_14),
+        Family::Vector => Ok(word ^ BIT_13),
+        Family::Saturating => Err(Refusal::NoPartner),
+        Family::LongLong => Ok(word ^ BIT_3),
+        Family::Long => Ok(word ^ BIT_3),
     }
 }
 
 // The word with S flipped. Refusals 1, 3, 6. It needs the family of the word, and none of its fields.
-pub fn partner(settings: Settings, word: u32) -> Partnered
+pub fn partner(settings: Settings, word: u32) -> Result<u32, Refusal>
     ensures { PartnerPromise settings word result }
 {
     if !settings.valid() {
-        return Partnered::Refused(Refusal::BadSettings);
+        return Err(Refusal::BadSettings);
     }
     let features = settings.features;
     let found = kind_of(word);
     if enables_kind(features, found, word) {
         return partner_in(kind_family(found), word);
     }
-    Partnered::Refused(Refusal::UnknownWord)
+    Err(Refusal::UnknownWord)
 }

@@ -13,8 +13,8 @@ returns-then-not-valid c = bad_settings (sym c.valid.ensures ∙ c.if-not-valid.
 pub returns-then-word-ge-NO_WORD : goal.returns-then-word-ge-NO_WORD
 returns-then-word-ge-NO_WORD c = not_text (sym c.valid.ensures ∙ c.if-not-valid.false) (c.word_of-word.ensures.none c.if-word-ge-NO_WORD.true)
 
-pub returns-in-Word : goal.returns-in-Word
-returns-in-Word c = read_as_decoded c.args.settings c.args.text.now _ _ _ (sym c.valid.ensures ∙ c.if-not-valid.false) (c.word_of-word.ensures.found (omega arith)) (sym c.decode-decoded.ensures ∙ ap decoded_says c.in-Word.is)
+pub returns-in-Ok : goal.returns-in-Ok
+returns-in-Ok c = read_as_decoded c.args.settings c.args.text.now _ _ _ (sym c.valid.ensures ∙ c.if-not-valid.false) (c.word_of-word.ensures.found (omega arith)) (sym c.decode-decoded.ensures ∙ ap decoded_says c.in-Ok.is)
 
-pub returns-in-Refused : goal.returns-in-Refused
-returns-in-Refused c = rw (tests_not_0 c.in-Refused.r) at (read_as_decoded c.args.settings c.args.text.now _ _ _ (sym c.valid.ensures ∙ c.if-not-valid.false) (c.word_of-word.ensures.found (omega arith)) (sym c.decode-decoded.ensures ∙ ap decoded_says c.in-Refused.is))
+pub returns-in-Err : goal.returns-in-Err
+returns-in-Err c = rw (tests_not_0 c.in-Err.r) at (read_as_decoded c.args.settings c.args.text.now _ _ _ (sym c.valid.ensures ∙ c.if-not-valid.false) (c.word_of-word.ensures.found (omega arith)) (sym c.decode-decoded.ensures ∙ ap decoded_says c.in-Err.is))

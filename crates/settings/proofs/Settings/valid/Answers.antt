@@ -1,5 +1,4 @@
 -- `Settings::valid` meets its contract: its three tests are those of the definition. Assumes nothing.
-use borrow.Author.Rules.{rules}
 use Rattle.settings.specs.Valid.{valid_settings}
 use Rattle.settings.proofs.Settings.valid.Goals as goal
 
