@@ -8,7 +8,7 @@ use Rattle.settings.specs.declared.Settings.{Settings}
 use Rattle.words.specs.declared.Fields.{Fields}
 use Rattle.words.proofs.Answers as words
 use Rattle.encoding.proofs.Theorems as encoding
-use Rattle.machine.specs.declared.Executed.{Executed}
+use Rattle.machine.specs.declared.Counts.{Counts}
 use Rattle.machine.proofs.Answers as machine
 use Rattle.rate.proofs.Rate as rate
 use Rattle.runlist.specs.declared.RunAnswer.{RunAnswer}
@@ -28,7 +28,7 @@ pub partner_unique : (settings : Settings) (word : ℕ) (r q : Result ℕ Refusa
 partner_unique = words.partner_unique
 
 -- the answer, and Z and ZA at the end
-pub execute_unique : (settings : Settings) (word : ℕ) (z za : List ℕ) (r q : Executed) (z1 za1 z2 za2 : List ℕ)
+pub execute_unique : (settings : Settings) (word : ℕ) (z za : List ℕ) (r q : Result Counts Refusal) (z1 za1 z2 za2 : List ℕ)
     → ExecutePromise settings word z za r z1 za1 → ExecutePromise settings word z za q z2 za2
     → (r ≡ q) × (z1 ≡ z2) × (za1 ≡ za2)
 execute_unique = machine.execute_unique

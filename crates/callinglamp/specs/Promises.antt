@@ -1,6 +1,7 @@
 -- What the eight public calls promise, side by side: what each answers, and what it leaves in what was lent to it. What a promise cites stands
 -- in the crates below: layouts and fields in `words`, the step in `machine`, the list in `runlist`, the texts in `spelling`.
 use Rattle.std.specs.Prelude.{ℕ, ◌≡◌, List, Result}
+use Rattle.machine.specs.declared.Counts.{Counts}
 use Rattle.settings.specs.Refused.{word_says}
 use Rattle.settings.specs.declared.Refusal.{Refusal}
 use Rattle.settings.specs.declared.Settings.{Settings}
@@ -9,7 +10,6 @@ use Rattle.words.specs.Partner as words
 use Rattle.words.specs.declared.Fields.{Fields}
 use Rattle.encoding.specs.Encode.{Encodes}
 use Rattle.machine.specs.Execute as machine
-use Rattle.machine.specs.declared.Executed.{Executed}
 use Rattle.rate.specs.Rate.{percent_of}
 use Rattle.runlist.specs.RunList as runlist
 use Rattle.runlist.specs.declared.RunAnswer.{RunAnswer}
@@ -31,7 +31,7 @@ abbrev pub PartnerPromise : Settings → ℕ → Result ℕ Refusal → Type 0
 PartnerPromise = words.PartnerPromise
 
 -- what a step does to Z and ZA, the bits that rose, those that fell and those that were written. "execute 1, 2, 3, 4"
-abbrev pub ExecutePromise : Settings → ℕ → List ℕ → List ℕ → Executed → List ℕ → List ℕ → Type 0
+abbrev pub ExecutePromise : Settings → ℕ → List ℕ → List ℕ → Result Counts Refusal → List ℕ → List ℕ → Type 0
 ExecutePromise = machine.ExecutePromise
 
 -- "Percent is 100·toggled/written rounded down, 0 where written is 0."

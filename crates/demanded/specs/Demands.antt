@@ -2,6 +2,7 @@
 -- proves each record, so that no statement can be dropped or lost in silence. That a call ends, for every input, is what the check says of a
 -- function without a `requires`: no public call has one.
 use Rattle.std.specs.Prelude.{ℕ, ◌^◌, ◌<◌, ◌≡◌, ◌↔◌, true, List, Result}
+use Rattle.machine.specs.declared.Counts.{Counts}
 use Rattle.settings.specs.Valid.{valid_settings}
 use Rattle.settings.specs.declared.Refusal.{Refusal}
 use Rattle.settings.specs.declared.Settings.{Settings}
@@ -10,7 +11,6 @@ use Rattle.words.specs.Decode.{enables, decode_paper}
 use Rattle.words.specs.declared.Family.TheVariants.{ByElement, Vector, Saturating, LongLong, Long}
 use Rattle.words.specs.declared.Fields.{Fields}
 use Rattle.encoding.specs.Encode.{Encodes}
-use Rattle.machine.specs.declared.Executed.{Executed}
 use Rattle.runlist.specs.declared.RunAnswer.{RunAnswer}
 use Rattle.spelling.specs.Language.{Reads}
 use Rattle.spelling.specs.declared.Printed.{Printed}
@@ -42,7 +42,7 @@ pub record Demand1 : Type 0 where
   pub partner_determined : (s : Settings) (w : ℕ) → OnlyOne {A = Result ℕ Refusal} (PartnerPromise s w)
   -- the answer, Z and ZA
   pub execute_determined : (s : Settings) (w : ℕ) (z za : List ℕ)
-      → OnlyOne {A = Executed × List ℕ × List ℕ} (λ a. ExecutePromise s w z za a.0 a.1 a.2)
+      → OnlyOne {A = Result Counts Refusal × List ℕ × List ℕ} (λ a. ExecutePromise s w z za a.0 a.1 a.2)
   pub percent_determined : (toggled written : ℕ) → OnlyOne {A = ℕ} (PercentPromise toggled written)
   -- the answer, Z, ZA and the report
   pub run_determined : (list z za report : List ℕ)

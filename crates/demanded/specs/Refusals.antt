@@ -1,7 +1,7 @@
 -- Document 01, "Refusal numbers, tested in this order", and those of request One: of each public call, which refusal is given where no earlier one
 -- is due, and what a refused call leaves. Of `execute` the order is `RefusedInOrder` (demands/specs/Execution.antt). Statements only:
 -- proofs/Refusals.antt proves each.
-use Rattle.std.specs.Prelude.{ℕ, ◌+◌, ◌*◌, ◌<◌, ◌≤◌, ◌≡◌, ◌≢◌, true, false, List, [], ◌∷◌, map, length}
+use Rattle.std.specs.Prelude.{ℕ, ◌+◌, ◌*◌, ◌<◌, ◌≤◌, ◌≡◌, ◌≢◌, true, false, List, [], ◌∷◌, map, length, Err}
 use Rattle.settings.specs.Valid.{valid_settings}
 use Rattle.settings.specs.Refused.{refusal_number}
 use Rattle.settings.specs.declared.Refusal.{Refusal}
@@ -16,7 +16,6 @@ use Rattle.encoding.specs.Encode.{Has}
 use Rattle.numbers.specs.Numbers.{all, fault, number_at, numbers_at}
 use Rattle.numbers.specs.declared.Read.TheVariants.{Number, Fault}
 use Rattle.machine.specs.Execute.{right_lengths, ExecutePromise}
-use Rattle.machine.specs.declared.Executed.TheVariants as executed
 use Rattle.runlist.specs.Plan.{most_words, z_length, settings_of}
 use Rattle.runlist.specs.RunList.{refused_at, run_paper, RunPromise}
 use Rattle.runlist.specs.declared.RunAnswer.TheVariants as answer
@@ -113,7 +112,7 @@ pub record ListInOrder (list z za report : List ℕ) : Type 0 where
 -- whatever `execute` was lent, where it answers a refusal
 abbrev pub ExecuteLeaves : Type 0
 ExecuteLeaves =
-    (s : Settings) (w : ℕ) (z za : List ℕ) (r : Refusal) (z' za' : List ℕ) → ExecutePromise s w z za (executed.Refused r) z' za'
+    (s : Settings) (w : ℕ) (z za : List ℕ) (r : Refusal) (z' za' : List ℕ) → ExecutePromise s w z za (Err r) z' za'
     → (z' ≡ z) × (za' ≡ za)
 
 -- and `run`

@@ -4,13 +4,13 @@ use Prim.Native.Nat.{ℕ, ◌<◌, ◌^◌}
 use native.Mathlib.Omega.{arith}
 use mathlib.Core.Path.{◌≡◌, ap, ◌∙◌}
 use mathlib.Core.List.{List}
+use Rattle.machine.specs.declared.Counts.{Counts}
 use Rattle.settings.specs.Refused.{word_says}
 use Rattle.settings.specs.declared.Refusal.{Refusal}
 use Rattle.settings.specs.declared.Settings.{Settings}
 use Rattle.words.specs.Decode.{decoded_says}
 use Rattle.words.specs.declared.Fields.{Fields}
 use Rattle.machine.specs.Execute.{Outcome}
-use Rattle.machine.specs.declared.Executed.{Executed}
 use Rattle.runlist.specs.Plan.{settings_of}
 use Rattle.runlist.specs.RunList.{Ended}
 use Rattle.runlist.specs.declared.RunAnswer.{RunAnswer}
@@ -42,7 +42,7 @@ module _ (settings : List ℕ) (s : Settings) (e : s ≡ settings_of settings) w
   pub partner_said : (word : ℕ) (a : Result ℕ Refusal) (r : ℕ) → PartnerPromise s word a → halves r ≡ word_says a → HostPartner settings word r
   partner_said word a r p h = rw (← e) (h ∙ p)
 
-  pub execute_said : (word : ℕ) (z za counts : List ℕ) (a : Executed) (r : ℕ) (z' za' counts' : List ℕ) → ExecutePromise s word z za a z' za'
+  pub execute_said : (word : ℕ) (z za counts : List ℕ) (a : Result Counts Refusal) (r : ℕ) (z' za' counts' : List ℕ) → ExecutePromise s word z za a z' za'
       → ExecutedPut a counts r counts' → HostExecute settings word z za counts r z' za' counts'
   unfolding host_execute
   execute_said word z za counts a r z' za' counts' p h =

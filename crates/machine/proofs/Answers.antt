@@ -2,13 +2,13 @@
 use Prim.Native.Nat.{ℕ}
 use mathlib.Core.Path.{◌≡◌, refl, sym, ap, ◌∙◌}
 use mathlib.Core.List.{List}
+use Rattle.std.specs.Prelude.{Result, Ok, Err}
+use Rattle.settings.specs.declared.Refusal.{Refusal}
 use Rattle.settings.specs.declared.Settings.{Settings}
 use Rattle.settings.proofs.Refusals.{refusal_known, not_0}
 use Rattle.machine.specs.Execute.{Outcome, executed_says, execute_paper}
 use Rattle.machine.specs.Run.{Report, report_of}
 use Rattle.machine.specs.declared.Counts.{Counts}
-use Rattle.machine.specs.declared.Executed.{Executed}
-use Rattle.machine.specs.declared.Executed.TheVariants.{Done, Refused}
 
 number : Report → ℕ
 number r = r.0
@@ -18,25 +18,25 @@ counts_same : {a b c d e f : ℕ} → a ≡ d → b ≡ e → c ≡ f
 counts_same p q r = rw (p, q, r)
 
 -- an answer is known by its report
-pub executed_known : (r q : Executed) (z za z' za' : List ℕ) → report_of (executed_says r z za) ≡ report_of (executed_says q z' za') → r ≡ q
+pub executed_known : (r q : Result Counts Refusal) (z za z' za' : List ℕ) → report_of (executed_says r z za) ≡ report_of (executed_says q z' za') → r ≡ q
 unfolding number
-executed_known (Done c) (Done d) z za z' za' e =
-    ap Done (counts_same (ap (λ (r : Report). r.1) e) (ap (λ (r : Report). r.2) e) (ap (λ (r : Report). r.3) e))
-executed_known (Done c) (Refused q) z za z' za' e = absurd (not_0 q (sym (ap number e)))
-executed_known (Refused r) (Done d) z za z' za' e = absurd (not_0 r (ap number e))
-executed_known (Refused r) (Refused q) z za z' za' e = ap Refused (refusal_known r q (ap number e))
+executed_known (Ok c) (Ok d) z za z' za' e =
+    ap Ok (counts_same (ap (λ (r : Report). r.1) e) (ap (λ (r : Report). r.2) e) (ap (λ (r : Report). r.3) e))
+executed_known (Ok c) (Err q) z za z' za' e = absurd (not_0 q (sym (ap number e)))
+executed_known (Err r) (Ok d) z za z' za' e = absurd (not_0 r (ap number e))
+executed_known (Err r) (Err q) z za z' za' e = ap Err (refusal_known r q (ap number e))
 
 -- what an answer says of Z and ZA is what the call left there
-pub says_z : (r : Executed) (z za : List ℕ) → (executed_says r z za).z ≡ z
-says_z (Done c) z za = refl
-says_z (Refused r) z za = refl
+pub says_z : (r : Result Counts Refusal) (z za : List ℕ) → (executed_says r z za).z ≡ z
+says_z (Ok c) z za = refl
+says_z (Err r) z za = refl
 
-pub says-za : (r : Executed) (z za : List ℕ) → (executed_says r z za).za ≡ za
-says-za (Done c) z za = refl
-says-za (Refused r) z za = refl
+pub says-za : (r : Result Counts Refusal) (z za : List ℕ) → (executed_says r z za).za ≡ za
+says-za (Ok c) z za = refl
+says-za (Err r) z za = refl
 
 -- any two answers that execute's promise allows are equal, and so are Z and ZA at the end
-pub execute_unique : (s : Settings) (w : ℕ) (z za : List ℕ) (r q : Executed) (z1 za1 z2 za2 : List ℕ)
+pub execute_unique : (s : Settings) (w : ℕ) (z za : List ℕ) (r q : Result Counts Refusal) (z1 za1 z2 za2 : List ℕ)
     → executed_says r z1 za1 ≡ execute_paper s w z za → executed_says q z2 za2 ≡ execute_paper s w z za
     → (r ≡ q) × (z1 ≡ z2) × (za1 ≡ za2)
 execute_unique s w z za r q z1 za1 z2 za2 e g =

@@ -1,7 +1,8 @@
 -- What execute answers, and what it leaves in Z and ZA.
-use Rattle.std.specs.Prelude.{ℕ, ◌+◌, ◌*◌, Bool, true, false, not, ◌&&◌, cond, List, ◌≡◌, eqb, length}
+use Rattle.std.specs.Prelude.{ℕ, ◌+◌, ◌*◌, Bool, true, false, not, ◌&&◌, cond, List, ◌≡◌, eqb, length, Result, Ok, Err}
 use Rattle.settings.specs.Valid.{valid_settings, vector_bytes, array_bytes}
 use Rattle.settings.specs.Refused.{refusal_number}
+use Rattle.settings.specs.declared.Refusal.{Refusal}
 use Rattle.settings.specs.declared.Settings.{Settings}
 use Rattle.words.specs.Decode.{decode_paper}
 use Rattle.words.specs.declared.Family.{Family}
@@ -11,8 +12,7 @@ use Rattle.bits.specs.Bits.{rises, falls}
 use Rattle.bits.specs.declared.Toggles.{Toggles}
 use Rattle.machine.specs.Modes.{permits}
 use Rattle.machine.specs.Step.{z_after, za_after}
-use Rattle.machine.specs.declared.Executed.{Executed}
-use Rattle.machine.specs.declared.Executed.TheVariants.{Done, Refused}
+use Rattle.machine.specs.declared.Counts.{Counts}
 
 -- the answer's number, its three counts, and the registers at the end
 pub record Outcome : Type 0 where
@@ -28,9 +28,9 @@ abbrev pub refused_with : ℕ → List ℕ → List ℕ → Outcome
 refused_with n z za = record { number = n; rises = 0; falls = 0; written = 0; z = z; za = za }
 
 -- what an answer says, with Z and ZA as the call left them
-abbrev pub executed_says : Executed → List ℕ → List ℕ → Outcome
-executed_says (Done c) z za = record { number = 0; rises = c.rises; falls = c.falls; written = c.written; z = z; za = za }
-executed_says (Refused r) z za = refused_with (refusal_number r) z za
+abbrev pub executed_says : Result Counts Refusal → List ℕ → List ℕ → Outcome
+executed_says (Ok c) z za = record { number = 0; rises = c.rises; falls = c.falls; written = c.written; z = z; za = za }
+executed_says (Err r) z za = refused_with (refusal_number r) z za
 
 -- written is VL in A and B (document 02) and in C, VL·group·4 in D, VL·group·2 in E
 abbrev pub written : Settings → Fields → ℕ
@@ -73,7 +73,7 @@ execute_paper s w z za =
     (stepped s decoded.1 z za))))
 
 -- what `execute` promises of its answer, and of Z and ZA at the call's end
-abbrev pub ExecutePromise : Settings → ℕ → List ℕ → List ℕ → Executed → List ℕ → List ℕ → Type 0
+abbrev pub ExecutePromise : Settings → ℕ → List ℕ → List ℕ → Result Counts Refusal → List ℕ → List ℕ → Type 0
 ExecutePromise s w z za r z' za' = executed_says r z' za' ≡ execute_paper s w z za
 
 -- ---- only contracts use this

@@ -1,6 +1,6 @@
 #![tactic(auto)]
 
-ghost use Rattle.std.specs.Prelude.{◌≡◌, ◌⊎◌, true, [], ◌+◌, ◌*◌, ◌/◌, ◌%◌, ◌≤◌, ◌<◌};
+ghost use Rattle.std.specs.Prelude.{◌≡◌, ◌⊎◌, true, [], Ok, ◌+◌, ◌*◌, ◌/◌, ◌%◌, ◌≤◌, ◌<◌};
 ghost use Rattle.settings.specs.Valid.{valid_settings, vector_bytes, array_bytes};
 ghost use Rattle.elements.specs.Files.{replaced};
 ghost use Rattle.bits.specs.Bits.{toggles};
@@ -11,7 +11,6 @@ ghost use Rattle.machine.specs.Step.{za_after};
 ghost use Rattle.machine.specs.Loop.{made, RegisterRenewed, RegisterWritten, Grid, place, becomes, IntoV, Sources, Places, Ready};
 ghost use Rattle.machine.specs.Execute.{executed_says, written, stepped, Stepped, right_lengths, ExecutePromise};
 ghost use Rattle.machine.specs.Run.{report_of, four_of};
-ghost use Rattle.machine.specs.declared.Executed.TheVariants.{Done};
 ghost use Rattle.words.specs.declared.Family.TheVariants.{Saturating};
 ghost use Rattle.words.specs.Ranges.{Ranges};
 ghost use Rattle.words.specs.Decode.{decode_paper};
@@ -27,13 +26,6 @@ pub struct Counts {
     pub rises: u32,
     pub falls: u32,
     pub written: u32,
-}
-
-// A step that was done, or why none was.
-#[derive(Clone, Copy)]
-pub enum Executed {
-    Done(Counts),
-    Refused(Refusal),
 }
 
 // The four numbers of a word in the report: a refusal's number or 0, and the counts.
@@ -270,7 +262,7 @@ fn step_files(settings: Settings, fields: Fields, w: usize, z: &mut [u8], za: &m
 fn step(settings: Settings, fields: Fields, z: &mut [u8], za: &mut [u8]) -> Counts
     requires ready { Ready settings z.old za.old }
     requires ranges { Ranges fields }
-    ensures { executed_says (Done result) z.new za.new ≡ stepped settings fields z.old za.old }
+    ensures { executed_says (Ok result) z.new za.new ≡ stepped settings fields z.old za.old }
 {
     let w = settings.vector_bytes() as usize;
     let toggles = step_files(settings, fields, w, z, za);
@@ -285,7 +277,13 @@ fn step(settings: Settings, fields: Fields, z: &mut [u8], za: &mut [u8]) -> Coun
 }
 
 // 4, or the step. The fields are read last: a word that is refused needs none.
-fn execute_kind(settings: Settings, kind: Kind, word: u32, z: &mut [u8], za: &mut [u8]) -> Executed
+fn execute_kind(
+    settings: Settings,
+    kind: Kind,
+    word: u32,
+    z: &mut [u8],
+    za: &mut [u8],
+) -> Result<Counts, Refusal>
     requires ready { Ready settings z.old za.old }
     requires word_value { decode_paper settings word ≡ (0, fields_as kind word) }
     ensures { ExecutePromise settings word z.old za.old result z.new za.new }
@@ -293,13 +291,18 @@ fn execute_kind(settings: Settings, kind: Kind, word: u32, z: &mut [u8], za: &mu
     let features = settings.features;
     let modes = settings.modes;
     if !permitted(features, modes, words::kind_family(kind)) {
-        return Executed::Refused(Refusal::WrongMode);
+        return Err(Refusal::WrongMode);
     }
-    Executed::Done(step(settings, words::fields_of(kind, word), z, za))
+    Ok(step(settings, words::fields_of(kind, word), z, za))
 }
 
 // 3, 4, or the step: for callers that have tested the settings and the lengths, once for many words.
-pub fn execute_word(settings: Settings, word: u32, z: &mut [u8], za: &mut [u8]) -> Executed
+pub fn execute_word(
+    settings: Settings,
+    word: u32,
+    z: &mut [u8],
+    za: &mut [u8],
+) -> Result<Counts, Refusal>
     requires { Ready settings z.old za.old }
     ensures { ExecutePromise settings word z.old za.old result z.new za.new }
 {
@@ -308,34 +311,39 @@ pub fn execute_word(settings: Settings, word: u32, z: &mut [u8], za: &mut [u8]) 
     if words::enables_kind(features, kind, word) {
         return execute_kind(settings, kind, word, z, za);
     }
-    Executed::Refused(Refusal::UnknownWord)
+    Err(Refusal::UnknownWord)
 }
 
 // Executes one word. Z has 32 registers of VL/8 bytes, and ZA VL/8 vectors of VL/8 bytes. A refusal leaves both as they are.
-pub fn execute(settings: Settings, word: u32, z: &mut [u8], za: &mut [u8]) -> Executed
+pub fn execute(
+    settings: Settings,
+    word: u32,
+    z: &mut [u8],
+    za: &mut [u8],
+) -> Result<Counts, Refusal>
     ensures { ExecutePromise settings word z.old za.old result z.new za.new }
 {
     if !settings.valid() {
-        return Executed::Refused(Refusal::BadSettings);
+        return Err(Refusal::BadSettings);
     }
     if !right_lengths(settings, z.len(), za.len()) {
-        return Executed::Refused(Refusal::BadLength);
+        return Err(Refusal::BadLength);
     }
     execute_word(settings, word, z, za)
 }
 
 // What a call answered, for the report.
-pub fn report_of(executed: Executed) -> Reported
-    ensures { four_of result ≡ report_of (executed_says executed [] []) }
+pub fn report_of(answer: Result<Counts, Refusal>) -> Reported
+    ensures { four_of result ≡ report_of (executed_says answer [] []) }
 {
-    match executed {
-        Executed::Done(counts) => Reported {
+    match answer {
+        Ok(counts) => Reported {
             refusal: 0,
             rises: counts.rises,
             falls: counts.falls,
             written: counts.written,
         },
-        Executed::Refused(refusal) => Reported {
+        Err(refusal) => Reported {
             refusal: settings::refusal_number(refusal),
             rises: 0,
             falls: 0,

@@ -6,6 +6,7 @@ use mathlib.Core.Bool.{true, false}
 use mathlib.Core.List.{List, [], ◌∷◌}
 use lib.ListN.{get_or}
 use lib.Arith.{digits_div, digits_mod}
+use Rattle.std.specs.Prelude.{Result, Ok, Err}
 use Rattle.laws.proofs.Tests.{cond_yes, cond_no}
 use Rattle.settings.specs.Refused.{refusal_number}
 use Rattle.settings.specs.declared.Refusal.{Refusal}
@@ -13,8 +14,6 @@ use Rattle.settings.proofs.Refusals.{tests_not_0}
 use Rattle.words.specs.Decode.{decoded_says}
 use Rattle.words.specs.declared.Fields.{Fields}
 use Rattle.machine.specs.declared.Counts.{Counts}
-use Rattle.machine.specs.declared.Executed.{Executed}
-use Rattle.machine.specs.declared.Executed.TheVariants as executed
 use Rattle.tally.specs.declared.Tally.{Tally}
 use Rattle.runlist.specs.declared.RunAnswer.{RunAnswer}
 use Rattle.runlist.specs.declared.RunAnswer.TheVariants as answer
@@ -51,12 +50,12 @@ module _ (a : Result Fields Refusal) (fields : List ℕ) where
 
 -- ---- execute
 
-module _ (a : Executed) (counts : List ℕ) where
-  pub executed_refused : (x : Refusal) (r : ℕ) → a ≡ executed.Refused x → halves r ≡ (refusal_number x, 0) → ExecutedPut a counts r counts
+module _ (a : Result Counts Refusal) (counts : List ℕ) where
+  pub executed_refused : (x : Refusal) (r : ℕ) → a ≡ Err x → halves r ≡ (refusal_number x, 0) → ExecutedPut a counts r counts
   executed_refused x r e h z za =
       rw (e, tests_not_0 x) (ap (λ (p : ℕ × ℕ). record { answer = p; z = z; za = za; counts = counts }) h)
 
-  pub executed_done : (c : Counts) → a ≡ executed.Done c → ExecutedPut a counts 0 (c.rises ∷ c.falls ∷ c.written ∷ [])
+  pub executed_done : (c : Counts) → a ≡ Ok c → ExecutedPut a counts 0 (c.rises ∷ c.falls ∷ c.written ∷ [])
   executed_done c e z za = rw e
 
 -- ---- run

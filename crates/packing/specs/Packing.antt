@@ -1,11 +1,12 @@
 -- What C passes and gets, as numbers, as include/callinglamp.h says it: an answer, a word's fields, and what stands in the arrays that a call was lent.
-use Rattle.std.specs.Prelude.{ℕ, ◌+◌, ◌*◌, ◌/◌, ◌%◌, ◌^◌, ◌<◌, ◌≡◌, Bool, ◌&&◌, cond, List, [], ◌∷◌, eqb, leb, get_or, set, replicate, Option, Some, None}
+use Rattle.machine.specs.declared.Counts.{Counts}
+use Rattle.settings.specs.declared.Refusal.{Refusal}
+use Rattle.std.specs.Prelude.{ℕ, ◌+◌, ◌*◌, ◌/◌, ◌%◌, ◌^◌, ◌<◌, ◌≡◌, Bool, ◌&&◌, cond, List, [], ◌∷◌, eqb, leb, get_or, set, replicate, Option, Some, None, Result}
 use Rattle.words.specs.Numbers.{family_number, family_of, bit_of}
 use Rattle.words.specs.Says.{is_one}
 use Rattle.words.specs.declared.Family.{Family}
 use Rattle.words.specs.declared.Fields.{Fields}
 use Rattle.machine.specs.Execute.{Outcome, executed_says}
-use Rattle.machine.specs.declared.Executed.{Executed}
 use Rattle.runlist.specs.RunList.{Ended, run_says}
 use Rattle.runlist.specs.declared.RunAnswer.{RunAnswer}
 use Rattle.runlist.specs.declared.RunAnswer.TheVariants as answer
@@ -142,7 +143,7 @@ ran_into e totals =
 -- ---- only contracts use these
 
 -- what is put down of an answer, whatever Z and ZA are
-abbrev pub ExecutedPut : Executed → List ℕ → ℕ → List ℕ → Type 0
+abbrev pub ExecutedPut : Result Counts Refusal → List ℕ → ℕ → List ℕ → Type 0
 ExecutedPut answer counts r counts' =
     (z za : List ℕ) → record { answer = halves r; z = z; za = za; counts = counts' } ≡ executed_into (executed_says answer z za) counts
 

@@ -10,7 +10,7 @@ ghost use Rattle.spelling.specs.Print.{printed_says};
 ghost use Rattle.spelling.specs.Language.{read_says};
 ghost use Rattle.packing.specs.Packing.{halves, field_numbers, are_fields, fields_with, fields_from, decoded_into, ExecutedPut, FitsHalf, RanPut, TextFits};
 
-use machine::Executed;
+use machine::Counts;
 use runlist::RunAnswer;
 use settings::{Refusal, Settings};
 use spelling::{Printed, WordRead};
@@ -162,12 +162,12 @@ pub fn no_fields(settings: Settings) -> u64
     refused(Refusal::BadSettings, 0)
 }
 
-pub fn executed(answer: Executed, counts: &mut [u32; 3]) -> u64
+pub fn executed(answer: Result<Counts, Refusal>, counts: &mut [u32; 3]) -> u64
     ensures { ExecutedPut answer counts.old result counts.new }
 {
     match answer {
-        Executed::Refused(refusal) => refused(refusal, 0),
-        Executed::Done(done) => {
+        Err(refusal) => refused(refusal, 0),
+        Ok(done) => {
             *counts = [done.rises, done.falls, done.written];
             0
         }

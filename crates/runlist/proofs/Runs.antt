@@ -6,6 +6,7 @@ use mathlib.Core.Path.{◌≡◌, refl, sym, ap, ap₂, ◌∙◌, subst, subst�
 use mathlib.Core.List.{List, [], ◌∷◌, ◌++◌, append_assoc, append-nil}
 use lib.ListN.{length, get_or, set, take, drop, replicate, length-append, take-append-drop}
 use lib.Seq.{drop-cons, drop-length, length-take-le, take_at, drop_at, sets-eq}
+use Rattle.std.specs.Prelude.{Result, Ok, Err}
 use Rattle.laws.proofs.Lists.{drop_more}
 use Rattle.settings.specs.declared.Refusal.{Refusal}
 use Rattle.settings.specs.declared.Settings.{Settings}
@@ -14,8 +15,7 @@ use Rattle.tally.specs.Tally.{plus}
 use Rattle.tally.specs.declared.Tally.{Tally}
 use Rattle.machine.specs.Execute.{Outcome, execute_paper, executed_says}
 use Rattle.machine.specs.Run.{Report, report_of, four_of, Run, report_first, run_of}
-use Rattle.machine.specs.declared.Executed.{Executed}
-use Rattle.machine.specs.declared.Executed.TheVariants.{Done, Refused}
+use Rattle.machine.specs.declared.Counts.{Counts}
 use Rattle.machine.specs.declared.Reported.{Reported}
 use Rattle.machine.proofs.Answers.{says_z, says-za}
 use Rattle.machine.proofs.Small.{counts_small}
@@ -47,9 +47,9 @@ starting s ws z za report =
     }
 
 -- an answer's four numbers do not hang on Z and ZA
-says_report : (e : Executed) (z za : List ℕ) → report_of (executed_says e [] []) ≡ report_of (executed_says e z za)
-says_report (Done c) z za = refl
-says_report (Refused r) z za = refl
+says_report : (e : Result Counts Refusal) (z za : List ℕ) → report_of (executed_says e [] []) ≡ report_of (executed_says e z za)
+says_report (Ok c) z za = refl
+says_report (Err r) z za = refl
 
 -- a word was executed: the answer's four numbers, and Z and ZA afterwards, are those of the definition
 pub record WordRun (o : Outcome) (r : Reported) (z' za' : List ℕ) : Type 0 where
@@ -57,7 +57,7 @@ pub record WordRun (o : Outcome) (r : Reported) (z' za' : List ℕ) : Type 0 whe
   pub z_is : o.z ≡ z'
   pub za_is : o.za ≡ za'
 
-pub word_run : (s : Settings) (w : ℕ) (z za : List ℕ) (e : Executed) (z' za' : List ℕ) (r : Reported)
+pub word_run : (s : Settings) (w : ℕ) (z za : List ℕ) (e : Result Counts Refusal) (z' za' : List ℕ) (r : Reported)
     → executed_says e z' za' ≡ execute_paper s w z za → four_of r ≡ report_of (executed_says e [] []) → WordRun (execute_paper s w z za) r z' za'
 word_run s w z za e z' za' r p q =
     record {
