@@ -1,5 +1,7 @@
 -- Fields that pass encode's test are the same fields, and what the test says of a word and of the candidate. Assumes nothing.
 use Prim.Native.Nat.{ℕ, ◌^◌, ◌<◌}
+use Rattle.std.specs.Prelude.{Option}
+use Rattle.std.specs.Bool.{then_some}
 use mathlib.Core.Path.{◌≡◌, refl, sym, ap, ◌∙◌}
 use mathlib.Core.Bool.{Bool, true, false, beq}
 use lib.Dec.{eqb}
@@ -8,7 +10,7 @@ use Rattle.laws.proofs.Tests.{both, never_both}
 use Rattle.words.specs.Says.{Described, As, Nothing, describe}
 use Rattle.words.specs.declared.Fields.{Fields}
 use Rattle.words.proofs.Numbers.{family_eq}
-use Rattle.encoding.specs.Encode.{Has}
+use Rattle.encoding.specs.Encode.{Has, TheWord}
 use Rattle.encoding.specs.Candidate.{same_of, says_only, candidate_of}
 use Rattle.encoding.proofs.Only.{only}
 
@@ -68,3 +70,8 @@ pub fails_none : (f : Fields) → says_only f (describe (candidate_of f)) ≡ fa
 fails_none f e w h =
     let d : describe (candidate_of f) ≡ As f = ap describe (only f w h.fits h.says) ∙ h.says in
     never_both _ (same_refl f) (ap (says_only f) (sym d) ∙ e)
+
+-- so the test of the candidate decides which word has the fields
+pub tested : (f : Fields) (w : ℕ) (t : Bool) (r : Option ℕ) → w ≡ candidate_of f → w < 2 ^ 32 → t ≡ says_only f (describe w) → r ≡ then_some t w → TheWord (Has f) r
+tested f w true r e lt p g = rw g (passes_has f w lt (sym p))
+tested f w false r e lt p g = rw g (fails_none f (ap (λ (v : ℕ). says_only f (describe v)) (sym e) ∙ sym p))

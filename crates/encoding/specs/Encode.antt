@@ -1,5 +1,5 @@
 -- Document 01, "Refusal numbers": what encode answers, said by what words say and by nothing else.
-use Rattle.std.specs.Prelude.{ℕ, ◌<◌, ◌≤◌, ◌^◌, ◌≡◌, true, false}
+use Rattle.std.specs.Prelude.{ℕ, ◌<◌, ◌≤◌, ◌^◌, ◌≡◌, true, false, Option, MatchOption}
 use Rattle.settings.specs.Valid.{valid_settings}
 use Rattle.settings.specs.declared.Settings.{Settings}
 use Rattle.words.specs.Says.{As, describe}
@@ -18,8 +18,12 @@ pub data Encodes (s : Settings) (f : Fields) : ℕ × ℕ → Type 0 where
   not_enabled : valid_settings s ≡ true → (w : ℕ) → Has f w → enables s.features.0 f ≡ false → Encodes s f (3, 0)
   a_word : valid_settings s ≡ true → (w : ℕ) → Has f w → enables s.features.0 f ≡ true → Encodes s f (0, w)
 
--- only contracts use this, one number for a word or for none: a word that has P, or 2 ^ 32 where no word has
-pub record TheWord (P : ℕ → Type 0) (r : ℕ) : Type 0 where
+-- only contracts use this: a word that has P, or none where no word has
+abbrev pub TheWord : (ℕ → Type 0) → Option ℕ → Type 0
+TheWord P r = MatchOption r ((w : ℕ) → P w → ⊥) P
+
+-- the same of one number, for the reader of texts: a word that has P, or 2 ^ 32 where no word has
+pub record TheNumber (P : ℕ → Type 0) (r : ℕ) : Type 0 where
   pub most : r ≤ 2 ^ 32
   pub found : r < 2 ^ 32 → P r
   pub none : 2 ^ 32 ≤ r → (w : ℕ) → P w → ⊥

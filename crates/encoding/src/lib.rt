@@ -239,34 +239,24 @@ fn has(word: u32, f: Fields) -> bool
     }
 }
 
-// Below 2 ^ 32 is a word, and from there on there is none.
-const NO_WORD: u64 = 4294967296;
-
 // The word that has exactly these fields, whatever the settings.
-pub fn word_with(f: Fields) -> u64
+pub fn word_with(f: Fields) -> Option<u32>
     ensures { TheWord (Has f) result }
 {
     let word = candidate(f);
-    if has(word, f) {
-        return word as u64;
-    }
-    NO_WORD
+    has(word, f).then_some(word)
 }
 
 // The word that has exactly these fields. Refusals 1, 5, 3.
 pub fn encode(settings: Settings, fields: Fields) -> Result<u32, Refusal>
     ensures { Encodes settings fields (word_says result) }
 {
-    if settings.valid() {
-        let word = word_with(fields);
-        if word < NO_WORD {
-            let features = settings.features;
-            if words::enables(features, fields) {
-                return Ok(word as u32);
-            }
-            return Err(Refusal::UnknownWord);
-        }
-        return Err(Refusal::NoSuchWord);
+    if !settings.valid() {
+        return Err(Refusal::BadSettings);
     }
-    Err(Refusal::BadSettings)
+    let word = word_with(fields).ok_or(Refusal::NoSuchWord)?;
+    if !words::enables(settings.features, fields) {
+        return Err(Refusal::UnknownWord);
+    }
+    Ok(word)
 }

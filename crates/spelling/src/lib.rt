@@ -5,7 +5,7 @@
 ghost use Rattle.std.specs.Prelude.{◌≡◌, true, false, cond, ◌+◌, ◌≤◌, ◌<◌, length, get_or};
 ghost use Rattle.pieces.specs.Pieces.{Stands};
 ghost use Rattle.syntax.specs.Syntax.{value_in, fill};
-ghost use Rattle.encoding.specs.Encode.{TheWord};
+ghost use Rattle.encoding.specs.Encode.{TheNumber};
 ghost use Rattle.spelling.specs.Rows.{syntax_at};
 ghost use Rattle.spelling.specs.Spell.{last_offset, letter_values, row_for, spell, longest_text};
 ghost use Rattle.spelling.specs.Print.{printed_says, put_into, PrintPromise};
@@ -317,22 +317,24 @@ fn is_theirs(text: &[u8], k: usize, f: Fields) -> bool
 // The word of a text by a row, by which the text can have no other fields than these.
 fn compared(text: &[u8], k: usize, f: Fields) -> u64
     requires { (k < 18) × (f ≡ candidate_at k text.now) }
-    ensures { TheWord (SpellsBy k text.now) result }
+    ensures { TheNumber (SpellsBy k text.now) result }
 {
-    let word = encoding::word_with(f);
-    if NO_WORD <= word {
-        return NO_WORD;
+    match encoding::word_with(f) {
+        Some(word) => {
+            if is_theirs(text, k, f) {
+                word as u64
+            } else {
+                NO_WORD
+            }
+        }
+        None => NO_WORD,
     }
-    if is_theirs(text, k, f) {
-        return word;
-    }
-    NO_WORD
 }
 
 // The word of a text by a row.
 fn word_by(text: &[u8], all: &[u8], k: usize) -> u64
     requires { (k < 18) × (all.now ≡ all_rows) }
-    ensures { TheWord (SpellsBy k text.now) result }
+    ensures { TheNumber (SpellsBy k text.now) result }
 {
     let from = start_at(k);
     let to = start_at(k + 1);
@@ -346,7 +348,7 @@ fn word_by(text: &[u8], all: &[u8], k: usize) -> u64
 
 // The word of a text, whatever the settings, or 2 ^ 32.
 pub fn word_of(text: &[u8]) -> u64
-    ensures { TheWord (Spells text.now) result }
+    ensures { TheNumber (Spells text.now) result }
 {
     let all = rows();
     let mut k = 0;
