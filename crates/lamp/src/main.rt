@@ -1,12 +1,12 @@
 // The list program: reads a list from standard input to its end, runs it, and prints a line for each word.
 #![tactic(auto)]
 
-ghost use Rattle.std.specs.Prelude.{◌≡◌, ◌+◌, ◌*◌, ◌≤◌, ◌<◌, length, take};
-ghost use Rattle.pieces.specs.Pieces.{Wrote};
+ghost use Rattle.std.specs.Prelude.{◌≡◌, ◌≤◌, ◌<◌, [], length, take};
 ghost use Rattle.runlist.specs.Plan.{most_words};
 ghost use Rattle.demands.specs.Lists.{longest};
 ghost use Rattle.lamp.specs.Lamp.{lines_of, register_of, register_bytes, printed, WordsAgain};
 
+use arrayvec::ArrayString;
 use callinglamp::RunAnswer;
 use numbers::Read;
 use runlist::Front;
@@ -77,34 +77,30 @@ fn put_answer(
     za: &mut [u8],
     report: &mut [u32],
     words: &mut [u32],
-    out: &mut [u8],
-) -> usize
-    requires { (length words.old ≡ most_words) × (96 + 96 * most_words ≤ length out.old) }
-    ensures wrote { Wrote (lines_of list.now z.old za.old report.old) 0 out.old out.new result }
-    ensures upper_bound { (result ≤ length out.new) × (result ≡ length (take result out.new)) }
+    out: &mut ArrayString<TEXT>,
+)
+    requires { (length words.old ≡ most_words) × (out.old.bytes ≡ []) }
+    ensures { out.new.bytes ≡ lines_of list.now z.old za.old report.old }
 {
     match callinglamp::run(list, z, za, report) {
-        RunAnswer::Refused { refusal, place } => lines::put_refused(
-            out,
-            settings::refusal_number(refusal),
-            place,
-        ),
+        RunAnswer::Refused { refusal, place } => {
+            out.push_str(&lines::refused_line(settings::refusal_number(refusal), place));
+        }
         RunAnswer::Ran {
             words: count,
             tally,
         } => {
             words_again(list, z.len(), za.len(), report.len(), words);
             let toggled = tally.rises + tally.falls;
-            lines::put_ran(out, &words[..count], report, toggled, tally.written)
+            lines::push_ran(out, &words[..count], report, toggled, tally.written);
         }
     }
 }
 
-// What is to be printed of a list, into `out`.
-fn put_printed(list: &[u8], out: &mut [u8]) -> usize
-    requires { 96 + 96 * most_words ≤ length out.old }
-    ensures wrote { Wrote (printed list.now) 0 out.old out.new result }
-    ensures upper_bound { (result ≤ length out.new) × (result ≡ length (take result out.new)) }
+// What is to be printed of a list, into `out`. A text that this handed out stood on the stack four times: 432 KiB, where these need 152.
+fn put_printed(list: &[u8], out: &mut ArrayString<TEXT>)
+    requires { out.old.bytes ≡ [] }
+    ensures { out.new.bytes ≡ printed list.now }
 {
     let bytes = register_bytes(list);
     let mut z = [0u8; MOST_Z];
@@ -128,21 +124,6 @@ fn input_room() -> [u8; INPUT]
     [0; INPUT]
 }
 
-// Reads until the room is full, the input ends or a read fails, and tells how many bytes it put at the room's start.
-fn read_full(from: &mut impl io::Read, room: &mut [u8]) -> usize
-    ensures { (result ≤ length room.new) × (result ≡ length (take result room.new)) }
-{
-    let mut done = 0;
-    while done < room.len() {
-        let got = from.read(&mut room[done..]).unwrap_or(0);
-        if got == 0 {
-            break;
-        }
-        done += got;
-    }
-    done
-}
-
 fn drain_some(from: &mut impl io::Read) -> bool {
     let mut buffer = [0u8; 4096];
     from.read(&mut buffer).unwrap_or(0) > 0
@@ -158,19 +139,14 @@ fn drain_input(from: &mut impl io::Read) {
     }
 }
 
-// A function of its own: of an array that a call returns the prover knows the length, and of one that it sees made it counts the elements.
-fn text_room() -> [u8; TEXT] {
-    [0; TEXT]
-}
-
 fn main(rt: HostRuntime) -> io::Result<()> {
     let mut stdin = rt.stdin();
     let mut input = input_room();
-    let got = read_full(&mut stdin, &mut input);
+    let got = input::read_full(&mut stdin, &mut input);
     if got == INPUT {
         drain_input(&mut stdin);
     }
-    let mut out = text_room();
-    let length = put_printed(&input[..got], &mut out);
-    rt.write_all(&out[..length])
+    let mut out = ArrayString::new();
+    put_printed(&input[..got], &mut out);
+    rt.write_all(out.as_bytes())
 }

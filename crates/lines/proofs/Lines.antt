@@ -1,48 +1,46 @@
--- Lines made of pieces: a number after a text, counts, what became of a word, one line more. Assumes nothing.
-use Prim.Native.Nat.{ℕ, ◌+◌, ◌≤◌}
+-- The four numbers of a word in the report, and a text to which one line more is added. Assumes nothing.
+use Prim.Native.Nat.{ℕ, zero, suc, ◌+◌, ◌/◌, ◌*◌, ◌<◌}
 use native.Mathlib.Numerals.{add-one}
-use mathlib.Core.Path.{◌≡◌, refl, sym, ap}
-use mathlib.Core.Logic.{◌≢◌}
-use mathlib.Core.List.{List, ◌++◌, append_assoc}
-use lib.ListN.{length}
-use Rattle.rate.specs.Rate.{percent_of}
-use Rattle.laws.proofs.Tests.{cond_eq, cond_ne}
-use Rattle.pieces.specs.Pieces.{text, decimal, Wrote}
-use Rattle.lines.specs.Lines.{counts_after, outcome, line_of, word_lines}
-use Rattle.pieces.proofs.Pieces.{nothing, and_then, said}
+use native.Mathlib.Omega.{arith}
+use mathlib.Core.Path.{◌≡◌, refl, sym, ap, ap₂, ◌∙◌}
+use mathlib.Core.List.{List, [], ◌++◌, append_assoc, append-nil}
+use lib.ListN.{length, get_or, take, drop}
+use lib.Seq.{get_or-take, get_or-drop}
+use Rattle.std.proofs.Common.{drop-drop}
+use Rattle.std.specs.Simd.{first_chunks}
+use Rattle.lines.specs.Lines.{word_line, toggled_at, line_of, word_lines}
 
--- a text and a number after a piece
-and_number : {t : List ℕ} (b d : List ℕ) {at r q : ℕ} {out₀ out₁ out₂ : List ℕ} → Wrote t at out₀ out₁ r → Wrote (b ++ d) r out₁ out₂ q
-    → Wrote (t ++ b ++ d) at out₀ out₂ q
-and_number {t} b d x y = said (sym (append_assoc t b d)) (and_then x y)
+chunk_at : (k i : ℕ) (xs : List ℕ) → i < k → get_or (first_chunks 4 k xs) i [] ≡ take 4 (drop (4 * i) xs)
+chunk_at zero i xs h = absurd (omega arith)
+chunk_at (suc k) zero xs h = refl
+chunk_at (suc k) (suc i) xs h =
+    let further : 4 + 4 * i ≡ 4 * suc i = omega arith in
+    chunk_at k i (drop 4 xs) (omega arith) ∙ ap (take 4) (drop-drop (4 * i) 4 xs ∙ ap (λ (n : ℕ). drop n xs) further)
 
--- the same at the end of a line
-pub and_last : {t : List ℕ} (b d e : List ℕ) {at r q : ℕ} {out₀ out₁ out₂ : List ℕ} → Wrote t at out₀ out₁ r → Wrote (b ++ d ++ e) r out₁ out₂ q
-    → Wrote (t ++ b ++ d ++ e) at out₀ out₂ q
-and_last {t} b d e x y = said (simp append_assoc) (and_then x y)
+module _ (report : List ℕ) (fours : List (List ℕ)) (e : fours ≡ first_chunks 4 (length report / 4) report) (i : ℕ) (inside : 4 * i + 4 < length report + 1) where
+  of_four : (k j : ℕ) → k < 4 → j ≡ 4 * i + k → get_or (get_or fours i []) k 0 ≡ get_or report j 0
+  of_four k j h at =
+      ap (λ (f : List (List ℕ)). get_or (get_or f i []) k 0) e
+      ∙ ap (λ (f : List ℕ). get_or f k 0) (chunk_at (length report / 4) i report (omega arith))
+      ∙ get_or-take 4 (drop (4 * i) report) k 0 h
+      ∙ get_or-drop (4 * i) report k 0
+      ∙ ap (λ (n : ℕ). get_or report n 0) (sym at)
 
-pub counts : (before : List ℕ) (toggled written percent : ℕ) {at p q r : ℕ} {out₀ out₁ out₂ out₃ : List ℕ} → percent ≡ percent_of toggled written
-    → Wrote (before ++ decimal toggled) at out₀ out₁ p → Wrote (text " " ++ decimal written) p out₁ out₂ q
-    → Wrote (text " " ++ decimal percent ++ text "\n") q out₂ out₃ r → Wrote (counts_after before toggled written) at out₀ out₃ r
-unfolding counts_after
-counts before toggled written percent e x y z =
-    said (ap (λ (n : ℕ). before ++ decimal toggled ++ text " " ++ decimal written ++ text " " ++ decimal n ++ text "\n") e)
-    (and_last (text " ") (decimal percent) (text "\n") (and_number (text " ") (decimal written) x y) z)
+  abbrev number : ℕ → ℕ
+  number k = get_or (get_or fours i []) k 0
 
--- what became of a word that ran, and of one that was refused
-pub ran : (refusal toggled written : ℕ) → refusal ≡ 0 → counts_after (text " ") toggled written ≡ outcome refusal toggled written
-unfolding outcome
-ran refusal toggled written h = cond_eq refusal 0 _ _ _ h refl
+  pub sum_is : number 1 + number 2 ≡ toggled_at report i
+  sum_is = ap₂ (λ (a b : ℕ). a + b) (of_four 1 (4 * i + 1) (omega arith) (omega arith)) (of_four 2 (4 * i + 2) (omega arith) (omega arith))
 
-pub refused : (refusal toggled written : ℕ) → refusal ≢ 0 → text " refused " ++ decimal refusal ++ text "\n" ≡ outcome refusal toggled written
-unfolding outcome
-refused refusal toggled written h = cond_ne refusal 0 _ _ _ h refl
+  pub one_line : (words before : List ℕ)
+      → (before ++ word_lines words report i) ++ word_line (i + 1) (get_or words i 0) (number 0) (number 1 + number 2) (number 3)
+      ≡ before ++ word_lines words report (i + 1)
+  unfolding word_lines
+  one_line words before =
+      rw (of_four 0 (4 * i) (omega arith) (omega arith), sum_is, of_four 3 (4 * i + 3) (omega arith) (omega arith))
+      (append_assoc before (word_lines words report i) (line_of words report i)
+      ∙ ap (λ (k : ℕ). before ++ word_lines words report k) (sym (add-one i)))
 
-pub no_lines : (words report : List ℕ) (at : ℕ) (out : List ℕ) → at ≤ length out → Wrote (word_lines words report 0) at out out at
+pub no_lines : (words report before : List ℕ) → before ≡ before ++ word_lines words report 0
 unfolding word_lines
-no_lines words report at out h = nothing at out h
-
-pub one_line : (words report : List ℕ) (i : ℕ) {at r q : ℕ} {out₀ out₁ out₂ : List ℕ} → Wrote (word_lines words report i) at out₀ out₁ r
-    → Wrote (line_of words report i) r out₁ out₂ q → Wrote (word_lines words report (i + 1)) at out₀ out₂ q
-unfolding word_lines
-one_line words report i x y = said (ap (word_lines words report) (sym (add-one i))) (and_then x y)
+no_lines words report before = sym (append-nil before)

@@ -1,113 +1,118 @@
-// The lines that the list program prints, written into room that the caller lends.
+// The lines that the list program prints. Each is a text whose type has room for the longest, so that only `push_ran`, which adds them to one text,
+// asks for room.
+// Kept: no `write!` and no Display. `push_ran` cannot fail, and no clause says when `write!` answers Ok: of `write!(out, "words {n}\n")`, in a text with
+// room for it, the goal `IsOk c.write.result` stayed open.
 #![tactic(auto)]
 
-ghost use Rattle.std.specs.Prelude.{◌≡◌, ◌++◌, ◌+◌, ◌*◌, ◌≤◌, ◌<◌, length, take};
-ghost use Rattle.pieces.specs.Pieces.{text, decimal, hex8, Wrote};
-ghost use Rattle.lines.specs.Lines.{refused_line, counts_after, outcome, line_of, word_lines, ran_lines, ToggledFits};
+ghost use Rattle.std.specs.Prelude.{◌≡◌, ◌+◌, ◌*◌, ◌≤◌, ◌<◌, [], ◌++◌, length};
+ghost use Rattle.arrayvec.specs.ArrayString.{array_string_len};
+ghost use Rattle.lines.specs.Lines.{refused_line, counts_after, outcome, word_line, word_lines, words_line, total_line, ran_lines, ToggledFits};
 
-// A number after a text.
-fn put_number(out: &mut [u8], at: usize, before: &[u8], n: u64) -> usize
-    requires { at + length before.now + 20 ≤ length out.old }
-    ensures wrote { Wrote (before.now ++ decimal n) at out.old out.new result }
-    ensures upper_bound { result ≤ at + length before.now + 20 }
-{
-    let number = pieces::put_text(out, at, before);
-    pieces::put_decimal(out, number, n)
-}
+use arrayvec::ArrayString;
 
-// A number after a text, and the line's end.
-fn put_last(out: &mut [u8], at: usize, before: &[u8], n: u64) -> usize
-    requires { at + length before.now + 21 ≤ length out.old }
-    ensures wrote { Wrote (before.now ++ decimal n ++ text "\n") at out.old out.new result }
-    ensures upper_bound { result ≤ at + length before.now + 21 }
+// Toggled, written and percent, to the line's end.
+fn counts(toggled: u32, written: u32) -> ArrayString<63>
+    ensures { result.bytes ≡ counts_after [] toggled written }
 {
-    let end = put_number(out, at, before, n);
-    pieces::put_text(out, end, b"\n")
-}
-
-// Toggled, written and percent after a text, and the line's end.
-fn put_counts(out: &mut [u8], at: usize, before: &[u8], toggled: u32, written: u32) -> usize
-    requires { at + length before.now + 63 ≤ length out.old }
-    ensures wrote { Wrote (counts_after before.now toggled written) at out.old out.new result }
-    ensures upper_bound { result ≤ at + length before.now + 63 }
-{
-    let percent = rate::percent(toggled, written);
-    let second = put_number(out, at, before, toggled as u64);
-    let third = put_number(out, second, b" ", written as u64);
-    put_last(out, third, b" ", percent)
-}
-
-// A word's number and the word.
-fn put_word(out: &mut [u8], at: usize, number: usize, word: u32) -> usize
-    requires { at + 29 ≤ length out.old }
-    ensures wrote { Wrote (decimal number ++ text " " ++ hex8 word) at out.old out.new result }
-    ensures upper_bound { result ≤ at + 29 }
-{
-    let space = pieces::put_decimal(out, at, number as u64);
-    let hex = pieces::put_text(out, space, b" ");
-    pieces::put_digits(out, hex, word as u64, 16, 8)
+    let mut text = ArrayString::new();
+    text.push_str(&pieces::decimal(toggled as u64));
+    text.push_str(" ");
+    text.push_str(&pieces::decimal(written as u64));
+    text.push_str(" ");
+    text.push_str(&pieces::decimal(rate::percent(toggled, written)));
+    text.push_str("\n");
+    text
 }
 
 // What became of a word, to the line's end.
-fn put_outcome(out: &mut [u8], at: usize, refusal: u32, toggled: u32, written: u32) -> usize
-    requires { at + 64 ≤ length out.old }
-    ensures wrote { Wrote (outcome refusal toggled written) at out.old out.new result }
-    ensures upper_bound { result ≤ at + 64 }
+fn outcome(refusal: u32, toggled: u32, written: u32) -> ArrayString<64>
+    ensures { result.bytes ≡ outcome refusal toggled written }
 {
+    let mut text = ArrayString::new();
     if refusal == 0 {
-        return put_counts(out, at, b" ", toggled, written);
+        text.push_str(" ");
+        text.push_str(&counts(toggled, written));
+        return text;
     }
-    put_last(out, at, b" refused ", refusal as u64)
+    text.push_str(" refused ");
+    text.push_str(&pieces::decimal(refusal as u64));
+    text.push_str("\n");
+    text
 }
 
-// The line of word i. The first is word 0, and its line begins with the number 1.
-fn put_line(out: &mut [u8], at: usize, words: &[u32], report: &[u32], i: usize) -> usize
-    requires at_in_bounds { at + 96 ≤ length out.old }
-    requires i_in_bounds { (i < length words.now) × (4 * length words.now ≤ length report.now) }
-    requires toggled_fits { ToggledFits report.now (length words.now) }
-    ensures wrote { Wrote (line_of words.now report.now i) at out.old out.new result }
-    ensures upper_bound { result ≤ at + 96 }
+// The line of a word: its number from 1 on, the word, and what became of it.
+fn word_line(number: usize, word: u32, refusal: u32, toggled: u32, written: u32) -> ArrayString<93>
+    ensures { result.bytes ≡ word_line number word refusal toggled written }
 {
-    let middle = put_word(out, at, i + 1, words[i]);
-    let first = 4 * i;
-    let toggled = report[first + 1] + report[first + 2];
-    put_outcome(out, middle, report[first], toggled, report[first + 3])
+    let mut line = ArrayString::new();
+    line.push_str(&pieces::decimal(number as u64));
+    line.push_str(" ");
+    line.push_str(&pieces::hex8(word));
+    line.push_str(&outcome(refusal, toggled, written));
+    line
 }
 
-fn put_lines(out: &mut [u8], at: usize, words: &[u32], report: &[u32]) -> usize
-    requires words_in_bounds { at + 96 * length words.now ≤ length out.old }
-    requires words_in_bounds_2 { (4 * length words.now ≤ length report.now) × ToggledFits report.now (length words.now) }
-    ensures wrote { Wrote (word_lines words.now report.now (length words.now)) at out.old out.new result }
-    ensures upper_bound { result ≤ at + 96 * length words.now }
+// How many words a list has.
+fn words_line(words: usize) -> ArrayString<27>
+    ensures { result.bytes ≡ words_line words }
 {
-    let mut next = at;
-    let mut i = 0;
-    while i < words.len() {
-        next = put_line(out, next, words, report, i);
-        i += 1;
+    let mut line = ArrayString::new();
+    line.push_str("words ");
+    line.push_str(&pieces::decimal(words as u64));
+    line.push_str("\n");
+    line
+}
+
+fn total_line(toggled: u32, written: u32) -> ArrayString<69>
+    ensures { result.bytes ≡ total_line toggled written }
+{
+    let mut line = ArrayString::new();
+    line.push_str("total ");
+    line.push_str(&counts(toggled, written));
+    line
+}
+
+// The first is word 0, and its line begins with the number 1.
+fn push_lines<const N: usize>(out: &mut ArrayString<N>, words: &[u32], report: &[u32])
+    requires room { array_string_len out.old + 93 * length words.now ≤ N }
+    requires fours { (4 * length words.now ≤ length report.now) × ToggledFits report.now (length words.now) }
+    ensures text { out.new.bytes ≡ out.old.bytes ++ word_lines words.now report.now (length words.now) }
+    ensures upper_bound { array_string_len out.new ≤ array_string_len out.old + 93 * length words.now }
+{
+    let (fours, _) = report.as_chunks::<4>();
+    for (i, word) in words.iter().enumerate() {
+        let [refusal, rises, falls, written] = fours[i];
+        out.push_str(&word_line(i + 1, *word, refusal, rises + falls, written));
     }
-    next
 }
 
-// The line of a refused list, of at most 53 bytes.
-pub fn put_refused(out: &mut [u8], number: u32, place: usize) -> usize
-    requires { 64 ≤ length out.old }
-    ensures wrote { Wrote (refused_line number place) 0 out.old out.new result }
-    ensures upper_bound { (result ≤ length out.new) × (result ≡ length (take result out.new)) }
+// The line of a refused list.
+pub fn refused_line(number: u32, place: usize) -> ArrayString<53>
+    ensures { result.bytes ≡ refused_line number place }
 {
-    let middle = put_number(out, 0, b"refused ", number as u64);
-    put_last(out, middle, b" at ", place as u64)
+    let mut line = ArrayString::new();
+    line.push_str("refused ");
+    line.push_str(&pieces::decimal(number as u64));
+    line.push_str(" at ");
+    line.push_str(&pieces::decimal(place as u64));
+    line.push_str("\n");
+    line
 }
 
-// The lines of a list that ran: how many words, a line for each, and the total. A word's line has at most 93 bytes, and
-// the first and the last line have at most 96 together.
-pub fn put_ran(out: &mut [u8], words: &[u32], report: &[u32], toggled: u32, written: u32) -> usize
-    requires words_in_bounds { 96 + 96 * length words.now ≤ length out.old }
-    requires words_in_bounds_2 { (4 * length words.now ≤ length report.now) × ToggledFits report.now (length words.now) }
-    ensures wrote { Wrote (ran_lines words.now report.now toggled written) 0 out.old out.new result }
-    ensures upper_bound { (result ≤ length out.new) × (result ≡ length (take result out.new)) }
+// Adds the lines of a list that ran: how many words, a line for each, and the total. The first and the last have at most
+// 96 bytes together, and a word's line has at most 93.
+pub fn push_ran<const N: usize>(
+    out: &mut ArrayString<N>,
+    words: &[u32],
+    report: &[u32],
+    toggled: u32,
+    written: u32,
+)
+    requires room { array_string_len out.old + 96 + 96 * length words.now ≤ N }
+    requires fours { (4 * length words.now ≤ length report.now) × ToggledFits report.now (length words.now) }
+    ensures { out.new.bytes ≡ out.old.bytes ++ ran_lines words.now report.now toggled written }
 {
-    let first = put_last(out, 0, b"words ", words.len() as u64);
-    let total = put_lines(out, first, words, report);
-    put_counts(out, total, b"total ", toggled, written)
+    out.push_str(&words_line(words.len()));
+    push_lines(out, words, report);
+    out.push_str(&total_line(toggled, written));
 }

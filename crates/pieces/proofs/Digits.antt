@@ -2,13 +2,16 @@
 use Prim.Native.Nat.{ℕ, zero, suc, ◌+◌, ◌-◌, ◌*◌, ◌/◌, ◌%◌, ◌^◌, ◌≤◌, ◌<◌}
 use native.Mathlib.Nat.{div-add-mod', mod-lt, mod-eq_of_lt, div-lt_iff_lt-mul, pow-zero, pow-suc}
 use native.Mathlib.Omega.{arith}
-use mathlib.Core.Path.{◌≡◌, refl, ap, ◌∙◌}
+use mathlib.Core.Path.{◌≡◌, refl, sym, ap, ◌∙◌}
 use mathlib.Core.Logic.{◌≢◌}
 use mathlib.Core.Bool.{cond}
 use mathlib.Core.List.{List, [], ◌∷◌, ◌++◌}
 use lib.Dec.{ltb}
 use lib.ListN.{length, get_or, length-append, get_or-append}
 use borrow.Author.Tests.{lt-ltb, le-ltb}
+use Rattle.std.specs.Fmt as std
+use Rattle.std.proofs.Math.Nat.{div-one, div-div-eq-div-mul, one-le-pow, pow-le-pow_right}
+use Rattle.std.proofs.lemmas.Fmt.{AppendsLastDigit, decimal_from_appends, length-decimal-le_succ}
 use Rattle.laws.proofs.Tests.{by_lt}
 use Rattle.pieces.specs.Pieces.{glyph_of, digits, decimal_up_to, decimal, hex8}
 
@@ -86,19 +89,11 @@ by_tens P one more zero n h = absurd (omega arith)
 by_tens P one more (suc k) n h = by_lt n 10 (one n) (λ (t : 10 ≤ n). more n t (by_tens P one more k (n / 10) (omega arith)))
 
 -- how many there are
-pub length_one : (n : ℕ) → n < 10 → length (decimal n) ≡ 1
+length_one : (n : ℕ) → n < 10 → length (decimal n) ≡ 1
 length_one n h = rw (decimal_one n h)
 
-pub length_more : (n : ℕ) → 10 ≤ n → length (decimal n) ≡ suc (length (decimal (n / 10)))
+length_more : (n : ℕ) → 10 ≤ n → length (decimal n) ≡ suc (length (decimal (n / 10)))
 length_more n h = rw (decimal_more n h, length-append) (omega arith)
-
-pub length-decimal : (k n : ℕ) → n < 10 ^ suc k → length (decimal n) ≤ suc k
-length-decimal zero n h = omega (arith, length_one n h)
-length-decimal (suc k) n h =
-    let high = length-decimal k (n / 10) (one_less 10 (suc k) n (omega arith) h) in
-    by_lt n 10
-    (λ (t : n < 10). omega (arith, length_one n t))
-    (λ (t : 10 ≤ n). omega (arith, length_more n t))
 
 some-decimal : (n : ℕ) → 0 < length (decimal n)
 some-decimal n =
@@ -106,15 +101,18 @@ some-decimal n =
     (λ (t : n < 10). omega (arith, length_one n t))
     (λ (t : 10 ≤ n). omega (arith, length_more n t))
 
--- they are the number's last ones, as many as there are
-pub decimal-digits : (n : ℕ) → decimal n ≡ digits 10 (length (decimal n)) n
-unfolding digits
-decimal-digits n =
-    by_tens (λ (x : ℕ). decimal x ≡ digits 10 (length (decimal x)) x)
-    (λ (x : ℕ) (t : x < 10). rw (decimal_one x t, mod-eq_of_lt t))
-    (λ (x : ℕ) (t : 10 ≤ x) (e : decimal (x / 10) ≡ digits 10 (length (decimal (x / 10))) (x / 10)).
-    rw (length_more x t) (decimal_more x t ∙ ap (λ (s : List ℕ). s ++ glyph_of (x % 10) ∷ []) e))
-    (suc n) n (omega arith)
+appends : AppendsLastDigit decimal_up_to
+unfolding decimal_up_to
+appends =
+    record {
+      one = λ (k n : ℕ) (h : n < 10). rw (lt-ltb n 10 h, mod-eq_of_lt h, lt-ltb n 10 h);
+      more = λ (k n : ℕ) (h : 10 ≤ n). rw (le-ltb n 10 h, lt-ltb (n % 10) 10 (mod-lt n (omega arith)));
+    }
+
+-- they are the digits that std's `{}` and `itoa` write of a number of 64 bits
+pub decimal_is : (n : ℕ) → n < 2 ^ 64 → std.decimal n ≡ decimal n
+unfolding decimal
+decimal_is n h = sym (decimal_from_appends decimal_up_to appends (suc n) n h (omega (arith, length-decimal-le_succ n h)))
 
 -- they read back as the number
 pub value-decimal : (n : ℕ) → value_of 10 (decimal n) ≡ n
@@ -143,3 +141,23 @@ length-hex8 w = length_digits 16 8 w
 pub value-hex8 : (w : ℕ) → w < 2 ^ 32 → value_of 16 (hex8 w) ≡ w
 unfolding hex8
 value-hex8 w h = value-digits 16 8 w (omega arith) (omega arith) h
+
+-- the digits above a place, one place lower
+pub one_lower : (w p : ℕ) → 0 < p → p ≤ 8
+    → digits 16 (8 - p) (w / 16 ^ p) ++ glyph_of (w / 16 ^ (p - 1) % 16) ∷ [] ≡ digits 16 (8 - (p - 1)) (w / 16 ^ (p - 1))
+unfolding digits
+one_lower w zero some few = absurd (omega arith)
+one_lower w (suc p) some few =
+    let less : suc p - 1 ≡ p = omega arith in
+    let more : 8 - p ≡ suc (8 - suc p) = omega arith in
+    let above : w / 16 ^ suc p ≡ w / 16 ^ p / 16 = ap (λ (k : ℕ). w / k) (pow-suc 16 p) ∙ sym (div-div-eq-div-mul w (16 ^ p) 16) in
+    rw (less, more, above)
+
+pub small_power : (p : ℕ) → p < 8 → (16 ^ p < 2 ^ 32) × (0 < 16 ^ p)
+small_power p h =
+    (omega (arith, pow-le-pow_right {n = 16} (omega arith) {i = p} {j = 7} (omega arith)), omega (arith, one-le-pow p 16 (omega arith)))
+
+-- above the lowest place stand all eight
+pub all_eight : (w : ℕ) → digits 16 8 (w / 16 ^ 0) ≡ hex8 w
+unfolding hex8
+all_eight w = rw (pow-zero 16, div-one w)

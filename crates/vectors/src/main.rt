@@ -409,21 +409,6 @@ fn check_list(rt: &impl Print, list: &[u8]) -> io::Result<()> {
     print_counts(rt, words, described, wrong)
 }
 
-// Reads until the room is full, the input ends or a read fails, and tells how many bytes it put at the room's start.
-fn read_full(from: &mut impl Read, room: &mut [u8]) -> usize
-    ensures { (result ≤ length room.new) × (result ≡ length (take result room.new)) }
-{
-    let mut done = 0;
-    while done < room.len() {
-        let got = from.read(&mut room[done..]).unwrap_or(0);
-        if got == 0 {
-            break;
-        }
-        done += got;
-    }
-    done
-}
-
 // Larger than the file. A longer file would be cut short, and the count of words would show it.
 const INPUT: usize = 524288;
 
@@ -434,6 +419,6 @@ fn input_room() -> [u8; INPUT] {
 
 fn main(rt: HostRuntime) -> io::Result<()> {
     let mut input = input_room();
-    let got = read_full(&mut rt.stdin(), &mut input);
+    let got = input::read_full(&mut rt.stdin(), &mut input);
     check_list(&rt, &input[..got])
 }

@@ -1,6 +1,6 @@
-use Rattle.pieces.proofs.Pieces.{said}
+use mathlib.Core.Path.{◌∙◌}
 use Rattle.lamp.proofs.Lent.{as-printed}
 use Rattle.lamp.proofs.put_printed.Goals as goal
 
-pub returns-clause-wrote : goal.returns-clause-wrote
-returns-clause-wrote c = said (as-printed _ _ c.register_bytes-bytes.ensures.0 c.register_bytes-bytes.ensures.1) c.put_answer.ensures.wrote
+pub returns : goal.returns
+returns c = c.put_answer.ensures ∙ as-printed _ _ c.register_bytes-bytes.ensures.0 c.register_bytes-bytes.ensures.1

@@ -14,7 +14,7 @@ pub loop-left-preserved : goal.loop-left-preserved
 loop-left-preserved c =
     let turn =
     one_more c.args.base c.args.count c.args.n c.args.at c.loop-left.left c.loop-left.rest c.glyph.result c.args.out.now c.loop-left.out
-    c.requires.2 (omega arith) c.loop-left.invariant.0 c.glyph.ensures c.loop-left.invariant.2 c.loop-left.invariant.3 in
+    c.requires.2 (omega arith) c.loop-left.invariant.0 c.glyph.ensures.0 c.loop-left.invariant.2 c.loop-left.invariant.3 in
     (omega arith, simp length-set (omega arith), turn.0, turn.1)
 
 pub returns-clause-wrote : goal.returns-clause-wrote

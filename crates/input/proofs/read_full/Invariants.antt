@@ -1,6 +1,6 @@
 -- The bytes that were read stand at the room's start. The measure is what is left of the room.
 use Rattle.std.proofs.Common.{◌-◌, ◌≤◌, length}
-use Rattle.lamp.proofs.read_full.Given as goal
+use Rattle.input.proofs.read_full.Given as goal
 
 abbrev pub invariant-loop-done : goal.invariant-loop-done
 invariant-loop-done g l = l.done ≤ length l.room
