@@ -412,7 +412,8 @@ fn check_list(rt: &impl Print, list: &[u8]) -> io::Result<()> {
 // Larger than the file. A longer file would be cut short, and the count of words would show it.
 const INPUT: usize = 524288;
 
-// A function of its own: of an array that a call returns the prover knows the length, and of one that it sees made it counts the elements.
+// Kept: with `[0; INPUT]` in `main` the checker ran out of stack. Of an array that it sees made it counts the elements, and of one that a call
+// returns it knows the length.
 fn input_room() -> [u8; INPUT] {
     [0u8; INPUT]
 }
