@@ -11,7 +11,8 @@ use Rattle.encoding.proofs.Theorems as encoding
 use Rattle.machine.specs.declared.Counts.{Counts}
 use Rattle.machine.proofs.Answers as machine
 use Rattle.rate.proofs.Rate as rate
-use Rattle.runlist.specs.declared.RunAnswer.{RunAnswer}
+use Rattle.numbers.specs.declared.Fault.{Fault}
+use Rattle.runlist.specs.declared.Ran.{Ran}
 use Rattle.runlist.proofs.Answers as runlist
 use Rattle.spelling.specs.declared.Printed.{Printed}
 use Rattle.spelling.specs.declared.WordRead.{WordRead}
@@ -37,7 +38,7 @@ pub percent_unique : (toggled written r q : ℕ) → PercentPromise toggled writ
 percent_unique = rate.percent_unique
 
 -- the answer, and Z, ZA and the report at the end
-pub run_unique : (list z za report : List ℕ) (r q : RunAnswer) (z1 za1 report1 z2 za2 report2 : List ℕ)
+pub run_unique : (list z za report : List ℕ) (r q : Result Ran Fault) (z1 za1 report1 z2 za2 report2 : List ℕ)
     → RunPromise list z za report r z1 za1 report1 → RunPromise list z za report q z2 za2 report2
     → (r ≡ q) × (z1 ≡ z2) × (za1 ≡ za2) × (report1 ≡ report2)
 run_unique = runlist.run_unique

@@ -12,7 +12,8 @@ use Rattle.encoding.specs.Encode.{Encodes}
 use Rattle.machine.specs.Execute as machine
 use Rattle.rate.specs.Rate.{percent_of}
 use Rattle.runlist.specs.RunList as runlist
-use Rattle.runlist.specs.declared.RunAnswer.{RunAnswer}
+use Rattle.numbers.specs.declared.Fault.{Fault}
+use Rattle.runlist.specs.declared.Ran.{Ran}
 use Rattle.spelling.specs.Print as print
 use Rattle.spelling.specs.Language as language
 use Rattle.spelling.specs.declared.Printed.{Printed}
@@ -40,7 +41,7 @@ PercentPromise toggled written r = r ≡ percent_of toggled written
 
 -- "An accepted list leaves the final Z and ZA", and "four numbers for each word" (document 02) "in the report, whose rest stays." A refused one leaves
 -- all as it was
-abbrev pub RunPromise : List ℕ → List ℕ → List ℕ → List ℕ → RunAnswer → List ℕ → List ℕ → List ℕ → Type 0
+abbrev pub RunPromise : List ℕ → List ℕ → List ℕ → List ℕ → Result Ran Fault → List ℕ → List ℕ → List ℕ → Type 0
 RunPromise = runlist.RunPromise
 
 -- "Arm's preferred assembler text for every word of the five families, in lower case with one fixed spacing": its length, and the room at the end.

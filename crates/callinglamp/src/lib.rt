@@ -4,7 +4,8 @@
 ghost use Rattle.callinglamp.specs.Promises.{DecodePromise, EncodePromise, PartnerPromise, ExecutePromise, PercentPromise, RunPromise, PrintPromise, ReadPromise};
 
 pub use machine::Counts;
-pub use runlist::RunAnswer;
+pub use numbers::Fault;
+pub use runlist::Ran;
 pub use settings::{Features, Modes, Refusal, Settings};
 pub use spelling::{Printed, WordRead, longest_text};
 pub use tally::Tally;
@@ -51,7 +52,7 @@ pub fn percent(toggled: u32, written: u32) -> u64
 }
 
 // Runs a list on Z and ZA, and reports four numbers for each word. Refusals 1, 2, 7 to 10, which leave all three as they are.
-pub fn run(list: &[u8], z: &mut [u8], za: &mut [u8], report: &mut [u32]) -> RunAnswer
+pub fn run(list: &[u8], z: &mut [u8], za: &mut [u8], report: &mut [u32]) -> Result<Ran, Fault>
     ensures { RunPromise list.now z.old za.old report.old result z.new za.new report.new }
 {
     runlist::run(list, z, za, report)

@@ -18,9 +18,9 @@ use Rattle.words.proofs.Answers.{decodes_when, partner_not_valid}
 use Rattle.encoding.specs.Encode.{Encodes, bad_settings, no_word, not_enabled}
 use Rattle.encoding.proofs.Theorems.{encodes_unique}
 use Rattle.machine.specs.Execute.{Outcome}
-use Rattle.numbers.specs.declared.Read.{Read}
-use Rattle.numbers.specs.declared.Read.TheVariants.{Number}
-use Rattle.runlist.specs.Plan.{Lent, lengths_of, Found, found, refused, Asked, most_words, z_length, settings_of, asking, after_count, words_from, z_from, settled_from, plan_of}
+use Rattle.numbers.specs.Numbers.{Read, number}
+use Rattle.runlist.specs.Plan.{lengths_of, Found, found, refused, Asked, most_words, z_length, settings_of, asking, after_count, words_from, z_from, settled_from, plan_of}
+use Rattle.runlist.specs.declared.Lengths.{Lengths}
 use Rattle.runlist.specs.RunList.{Ended, carried_out, run_paper}
 use Rattle.spelling.specs.Spell.{spell}
 use Rattle.spelling.specs.Print.{print_paper}
@@ -89,7 +89,7 @@ read_in_order s t a e =
 -- ---- lists
 
 module _ (list z za report : List ℕ) where
-  abbrev lent : Lent
+  abbrev lent : Lengths
   lent = lengths_of z za report
 
   -- where a list leads by what it asks for
@@ -115,7 +115,7 @@ module _ (list z za report : List ℕ) where
 
     -- and the words after the count
     at_words : (n from : ℕ) → CountKnown list z za head at n from
-        → plan_of list lent ≡ asking settings (take (z_length settings) (drop at list)) (after_count list lent behind (Number n from))
+        → plan_of list lent ≡ asking settings (take (z_length settings) (drop at list)) (after_count list lent behind (number n from))
     unfolding words_from
     at_words n from c =
         at_z c.lengths ∙ z_there c.z_there ∙ ap (λ (x : Read). asking settings (take (z_length settings) (drop at list)) (after_count list lent behind x)) c.count
@@ -147,8 +147,8 @@ execute_leaves s w z za r z' za' e =
     (ap (λ (o : Outcome). o.z) e ∙ k.0, ap (λ (o : Outcome). o.za) e ∙ k.1)
 
 pub run_leaves : RunLeaves
-run_leaves list z za report r p z' za' report' e =
-    let k = lists.refused_keeps list z za report (λ n. not_0 r (ap (λ (o : Ended). o.number) e ∙ n)) in
+run_leaves list z za report f z' za' report' e =
+    let k = lists.refused_keeps list z za report (λ n. not_0 f.refusal (ap (λ (o : Ended). o.number) e ∙ n)) in
     (ap (λ (o : Ended). o.z) e ∙ k.0, ap (λ (o : Ended). o.za) e ∙ k.1, ap (λ (o : Ended). o.report) e ∙ k.2)
 
 pub print_leaves : PrintLeaves

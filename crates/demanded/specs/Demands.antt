@@ -11,7 +11,8 @@ use Rattle.words.specs.Decode.{enables, decode_paper}
 use Rattle.words.specs.declared.Family.TheVariants.{ByElement, Vector, Saturating, LongLong, Long}
 use Rattle.words.specs.declared.Fields.{Fields}
 use Rattle.encoding.specs.Encode.{Encodes}
-use Rattle.runlist.specs.declared.RunAnswer.{RunAnswer}
+use Rattle.numbers.specs.declared.Fault.{Fault}
+use Rattle.runlist.specs.declared.Ran.{Ran}
 use Rattle.spelling.specs.Language.{Reads}
 use Rattle.spelling.specs.declared.Printed.{Printed}
 use Rattle.spelling.specs.declared.WordRead.{WordRead}
@@ -46,7 +47,7 @@ pub record Demand1 : Type 0 where
   pub percent_determined : (toggled written : ℕ) → OnlyOne {A = ℕ} (PercentPromise toggled written)
   -- the answer, Z, ZA and the report
   pub run_determined : (list z za report : List ℕ)
-      → OnlyOne {A = RunAnswer × List ℕ × List ℕ × List ℕ} (λ a. RunPromise list z za report a.0 a.1 a.2 a.3)
+      → OnlyOne {A = Result Ran Fault × List ℕ × List ℕ × List ℕ} (λ a. RunPromise list z za report a.0 a.1 a.2 a.3)
   -- the answer and the room
   pub print_determined : (s : Settings) (w : ℕ) (room : List ℕ) → OnlyOne {A = Printed × List ℕ} (λ a. PrintPromise s w room a.0 a.1)
   pub read_determined : (s : Settings) (text : List ℕ) → OnlyOne {A = WordRead} (ReadPromise s text)

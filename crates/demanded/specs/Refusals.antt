@@ -13,12 +13,11 @@ use Rattle.words.specs.Partner.{partner_paper}
 use Rattle.words.specs.declared.Family.TheVariants.{Saturating}
 use Rattle.words.specs.declared.Fields.{Fields}
 use Rattle.encoding.specs.Encode.{Has}
-use Rattle.numbers.specs.Numbers.{all, fault, number_at, numbers_at}
-use Rattle.numbers.specs.declared.Read.TheVariants.{Number, Fault}
+use Rattle.numbers.specs.Numbers.{all, fault, number, no_number, number_at, numbers_at}
+use Rattle.numbers.specs.declared.Fault.{Fault}
 use Rattle.machine.specs.Execute.{right_lengths, ExecutePromise}
 use Rattle.runlist.specs.Plan.{most_words, z_length, settings_of}
 use Rattle.runlist.specs.RunList.{refused_at, run_paper, RunPromise}
-use Rattle.runlist.specs.declared.RunAnswer.TheVariants as answer
 use Rattle.spelling.specs.Spell.{spell}
 use Rattle.spelling.specs.Print.{print_paper, PrintPromise}
 use Rattle.spelling.specs.Language.{Spells}
@@ -84,7 +83,7 @@ pub record LengthsRight (list z za head : List ℕ) (at : ℕ) : Type 0 where
 pub record CountKnown (list z za head : List ℕ) (at n from : ℕ) : Type 0 where
   pub lengths : LengthsRight list z za head at
   pub z_there : at + z_length (settings_of head) ≤ length list
-  pub count : number_at list (at + z_length (settings_of head)) ≡ Number n from
+  pub count : number_at list (at + z_length (settings_of head)) ≡ number n from
 
 -- 1 after W11, "and next the exact lengths of Z and ZA (2)"; the Z bytes; the count, 9, "The report's length (2) is tested after 9 and before the
 -- first word"; the words; 10
@@ -95,7 +94,7 @@ pub record ListInOrder (list z za report : List ℕ) : Type 0 where
       → right_lengths (settings_of head) (length z) (length za) ≡ false → RefusesWith BadLength 0 list z za report
   pub in_z : (head : List ℕ) (at : ℕ) → LengthsRight list z za head at → length list < at + z_length (settings_of head) → RefusesWith ListEnds at list z za report
   pub in_count : (head : List ℕ) (at : ℕ) → LengthsRight list z za head at → at + z_length (settings_of head) ≤ length list
-      → (r : Refusal) (p : ℕ) → number_at list (at + z_length (settings_of head)) ≡ Fault r p → RefusesWith r p list z za report
+      → (r : Refusal) (p : ℕ) → number_at list (at + z_length (settings_of head)) ≡ no_number r p → RefusesWith r p list z za report
   pub by_count : (head : List ℕ) (at n from : ℕ) → CountKnown list z za head at n from → most_words < n
       → RefusesWith TooManyWords (at + z_length (settings_of head)) list z za report
   pub by_report : (head : List ℕ) (at n from : ℕ) → CountKnown list z za head at n from → n ≤ most_words → length report < 4 * n
@@ -118,7 +117,7 @@ ExecuteLeaves =
 -- and `run`
 abbrev pub RunLeaves : Type 0
 RunLeaves =
-    (list z za report : List ℕ) (r : Refusal) (p : ℕ) (z' za' report' : List ℕ) → RunPromise list z za report (answer.Refused r p) z' za' report'
+    (list z za report : List ℕ) (f : Fault) (z' za' report' : List ℕ) → RunPromise list z za report (Err f) z' za' report'
     → (z' ≡ z) × (za' ≡ za) × (report' ≡ report)
 
 -- and `print`

@@ -15,7 +15,8 @@ use Rattle.settings.specs.declared.Refusal.TheVariants.{ExtraBytes}
 use Rattle.settings.specs.declared.Settings.{Settings}
 use Rattle.numbers.proofs.Places.{number_kept}
 use Rattle.numbers.proofs.Rows.{row_kept}
-use Rattle.runlist.specs.Plan.{Lent, lengths_of, Found, found, refused, Asked, most_words, ended_at, words_from, asking, settled_from, headed, plan_of}
+use Rattle.runlist.specs.Plan.{lengths_of, Found, found, refused, Asked, most_words, ended_at, words_from, asking, settled_from, headed, plan_of}
+use Rattle.runlist.specs.declared.Lengths.{Lengths}
 use Rattle.runlist.specs.RunList.{carried_out, run_paper}
 use Rattle.runlist.proofs.Plans.{not-refused, words_counted, z_read}
 use Rattle.demands.specs.Lists.{longest, AtMostLongest, OnlyWhole, FirstBytesDecide, EnoughBytes, RunOfEnough, LengthsHold, RefusedKeeps, PlaceInside, PlaceNear, RunSmall, OfList, RefusedWith}
@@ -28,13 +29,13 @@ some_bytes [] h = absurd (h refl)
 some_bytes (b ∷ t) h = omega arith
 
 module _ (list t : List ℕ) (h : t ≢ []) where
-  words_more : (lent : Lent) (at : ℕ) (ws : List ℕ) → Worded list lent at ws → words_from (list ++ t) lent at ≡ refused ExtraBytes (length list)
+  words_more : (lent : Lengths) (at : ℕ) (ws : List ℕ) → Worded list lent at ws → words_from (list ++ t) lent at ≡ refused ExtraBytes (length list)
   words_more lent at ws w =
       sym (words_counted (list ++ t) lent at (length ws) w.from (number_kept list t at (length ws) w.from w.count) w.few w.reported)
       ∙ ap (ended_at (list ++ t)) (row_kept list t w.from (length ws) ws (length list) w.row)
       ∙ simp (ne_eqb (length list) (length (list ++ t)) (λ (q : length list ≡ length (list ++ t)). omega (arith, length-append list t, some_bytes t h)))
 
-  parts_more : (lent : Lent) (a : Asked) → PartsOf list lent a → plan_of (list ++ t) lent ≡ refused ExtraBytes (length list)
+  parts_more : (lent : Lengths) (a : Asked) → PartsOf list lent a → plan_of (list ++ t) lent ≡ refused ExtraBytes (length list)
   unfolding plan_of
   parts_more lent a m =
       ap (headed (list ++ t) lent) (row_kept list t 0 7 m.head m.at m.header)
@@ -94,7 +95,7 @@ refused_keeps list z za report = kept (plan_of list (lengths_of z za report)) z 
 abbrev Told : ℕ → Refusal → ℕ → Type 0
 Told size r p = (p ≤ size) × OfList r p
 
-told : (list : List ℕ) (lent : Lent) (r : Refusal) (p : ℕ) → plan_of list lent ≡ refused r p → Told (length list) r p
+told : (list : List ℕ) (lent : Lengths) (r : Refusal) (p : ℕ) → plan_of list lent ≡ refused r p → Told (length list) r p
 told list lent =
     by_cause list lent (Told (length list))
     (record {

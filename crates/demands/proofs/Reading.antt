@@ -15,19 +15,19 @@ use Rattle.settings.specs.declared.Refusal.{Refusal}
 use Rattle.settings.specs.declared.Refusal.TheVariants.{BadSettings, BadLength, ListEnds, BadNumber, TooManyWords, ExtraBytes}
 use Rattle.settings.specs.declared.Settings.{Settings}
 use Rattle.settings.proofs.Lengths.{valid_parts, vector_at_most, vector_bits}
-use Rattle.numbers.specs.Numbers.{put, puts, Numbers, all, fault, number_at, numbers_at}
-use Rattle.numbers.specs.declared.Read.{Read}
-use Rattle.numbers.specs.declared.Read.TheVariants.{Number, Fault}
+use Rattle.numbers.specs.Numbers.{put, puts, Numbers, all, fault, Read, number, number_at, numbers_at}
+use Rattle.std.specs.Prelude.{Ok, Err}
 use Rattle.numbers.proofs.Shortest.{put_length_1, put_length_2}
 use Rattle.numbers.proofs.Places.{number_far, number_within, number_fault}
 use Rattle.numbers.proofs.Rows.{row_count, row_within, row_far, row-fault, put_lengths_few, row_place}
 use Rattle.machine.specs.Execute.{right_lengths}
-use Rattle.runlist.specs.Plan.{Lent, Found, found, refused, Asked, most_words, ended_at, after_count, words_from, asking, z_length, z_from, settled_from, settings_of, headed, plan_of}
+use Rattle.runlist.specs.Plan.{Found, found, refused, Asked, most_words, ended_at, after_count, words_from, asking, z_length, z_from, settled_from, settings_of, headed, plan_of}
+use Rattle.runlist.specs.declared.Lengths.{Lengths}
 use Rattle.runlist.proofs.Plans.{not-refused, z_right}
 use Rattle.demands.specs.Lists.{longest}
 
 -- the Z bytes, where their length is exact
-z_exact : (list : List ℕ) (lent : Lent) (s : Settings) (at : ℕ) → right_lengths s lent.z lent.za ≡ true
+z_exact : (list : List ℕ) (lent : Lengths) (s : Settings) (at : ℕ) → right_lengths s lent.z lent.za ≡ true
     → z_from list lent s at
     ≡ cond (leb (at + lent.z) (length list)) (asking s (take lent.z (drop at list)) (words_from list lent (at + lent.z))) (refused ListEnds at)
 unfolding z_from
@@ -36,15 +36,15 @@ z_exact list lent s at l = rw (z_right s lent l)
 -- ---- what an accepted list is parts-of of
 
 -- a count at `at`, and as many words, with which the list ends
-pub record Worded (list : List ℕ) (lent : Lent) (at : ℕ) (ws : List ℕ) : Type 0 where
+pub record Worded (list : List ℕ) (lent : Lengths) (at : ℕ) (ws : List ℕ) : Type 0 where
   pub from : ℕ
-  pub count : number_at list at ≡ Number (length ws) from
+  pub count : number_at list at ≡ number (length ws) from
   pub few : length ws ≤ most_words
   pub reported : 4 * length ws ≤ lent.report
   pub row : numbers_at list from (length ws) ≡ all ws (length list)
 
-module _ (list : List ℕ) (lent : Lent) (at : ℕ) (ws : List ℕ) where
-  worded_end : (n p : ℕ) → number_at list at ≡ Number n p → n ≤ most_words → 4 * n ≤ lent.report → (m : Numbers) → numbers_at list p n ≡ m → ended_at list m ≡ found ws → Worded list lent at ws
+module _ (list : List ℕ) (lent : Lengths) (at : ℕ) (ws : List ℕ) where
+  worded_end : (n p : ℕ) → number_at list at ≡ number n p → n ≤ most_words → 4 * n ≤ lent.report → (m : Numbers) → numbers_at list p n ≡ m → ended_at list m ≡ found ws → Worded list lent at ws
   worded_end n p e h k (all vs q) f g =
       by_cond (eqb q (length list)) (found vs) (refused ExtraBytes q) (found ws)
       (λ t x.
@@ -52,7 +52,7 @@ module _ (list : List ℕ) (lent : Lent) (at : ℕ) (ws : List ℕ) where
       let is : n ≡ length ws = sym (row_count list p n vs q f) ∙ ap length same in
       record {
         from = p;
-        count = e ∙ ap (λ (i : ℕ). Number i p) is;
+        count = e ∙ ap (λ (i : ℕ). number i p) is;
         few = omega arith;
         reported = omega arith;
         row = ap (numbers_at list p) (sym is) ∙ f ∙ ap₂ all same (eqb-true q (length list) t);
@@ -62,20 +62,20 @@ module _ (list : List ℕ) (lent : Lent) (at : ℕ) (ws : List ℕ) where
   worded_end n p e h k (fault vs r q) f g = not-refused ws r q g
 
   worded_number : (r : Read) → number_at list at ≡ r → after_count list lent at r ≡ found ws → Worded list lent at ws
-  worded_number (Number n p) e =
-      by_cond (leb n most_words) (cond (leb (4 * n) lent.report) (ended_at list (numbers_at list p n)) (refused BadLength 0)) (refused TooManyWords at) (found ws)
-      (λ h. by_cond (leb (4 * n) lent.report) (ended_at list (numbers_at list p n)) (refused BadLength 0) (found ws)
-      (λ k. worded_end n p e (leb-true n most_words h) (leb-true (4 * n) lent.report k) (numbers_at list p n) refl)
+  worded_number (Ok x) e =
+      by_cond (leb x.value most_words) (cond (leb (4 * x.value) lent.report) (ended_at list (numbers_at list x.next x.value)) (refused BadLength 0)) (refused TooManyWords at) (found ws)
+      (λ h. by_cond (leb (4 * x.value) lent.report) (ended_at list (numbers_at list x.next x.value)) (refused BadLength 0) (found ws)
+      (λ k. worded_end x.value x.next e (leb-true x.value most_words h) (leb-true (4 * x.value) lent.report k) (numbers_at list x.next x.value) refl)
       (λ k. not-refused ws BadLength 0))
       (λ h. not-refused ws TooManyWords at)
-  worded_number (Fault r p) e = not-refused ws r p
+  worded_number (Err f) e = not-refused ws f.refusal f.place
 
   worded : words_from list lent at ≡ found ws → Worded list lent at ws
   unfolding words_from
   worded = worded_number (number_at list at) refl
 
 -- "In order": seven numbers, the Z bytes, the count and the words
-pub record PartsOf (list : List ℕ) (lent : Lent) (a : Asked) : Type 0 where
+pub record PartsOf (list : List ℕ) (lent : Lengths) (a : Asked) : Type 0 where
   pub head : List ℕ
   pub at : ℕ
   pub header : numbers_at list 0 7 ≡ all head at
@@ -86,7 +86,7 @@ pub record PartsOf (list : List ℕ) (lent : Lent) (a : Asked) : Type 0 where
   pub z_are : a.z ≡ take lent.z (drop at list)
   pub words_are : Worded list lent (at + lent.z) a.words
 
-module _ (list : List ℕ) (lent : Lent) (a : Asked) where
+module _ (list : List ℕ) (lent : Lengths) (a : Asked) where
   module _ (head : List ℕ) (at : ℕ) (e : numbers_at list 0 7 ≡ all head at) (v : valid_settings (settings_of head) ≡ true) (l : right_lengths (settings_of head) lent.z lent.za ≡ true) where
     parts_words : (w : Found (List ℕ)) → at + lent.z ≤ length list → words_from list lent (at + lent.z) ≡ w → asking (settings_of head) (take lent.z (drop at list)) w ≡ found a
         → PartsOf list lent a
@@ -135,7 +135,7 @@ Refusing Q (found a) = Unit {0}
 Refusing Q (refused r p) = Q r p
 
 -- what a list is refused for, and where: Q of each
-pub record Causes (list : List ℕ) (lent : Lent) (Q : Refusal → ℕ → Type 0) : Type 0 where
+pub record Causes (list : List ℕ) (lent : Lengths) (Q : Refusal → ℕ → Type 0) : Type 0 where
   pub ends : (p : ℕ) → p ≤ length list → Q ListEnds p
   pub bad : (p : ℕ) → p ≤ length list → Q BadNumber p
   pub settings : Q BadSettings 0
@@ -145,7 +145,7 @@ pub record Causes (list : List ℕ) (lent : Lent) (Q : Refusal → ℕ → Type 
   pub many : (p : ℕ) → p ≤ length list → Q TooManyWords p
   pub extra : (p : ℕ) → p ≤ length list → Q ExtraBytes p
 
-module _ (list : List ℕ) (lent : Lent) (Q : Refusal → ℕ → Type 0) (c : Causes list lent Q) where
+module _ (list : List ℕ) (lent : Lengths) (Q : Refusal → ℕ → Type 0) (c : Causes list lent Q) where
   of_number : (r : Refusal) (p : ℕ) → p ≤ length list → (r ≡ ListEnds) ⊎ (r ≡ BadNumber) → Q r p
   of_number r p h = ⊎_elim (λ e. subst (λ (x : Refusal). Q x p) (sym e) (c.ends p h)) (λ e. subst (λ (x : Refusal). Q x p) (sym e) (c.bad p h))
 
@@ -155,13 +155,13 @@ module _ (list : List ℕ) (lent : Lent) (Q : Refusal → ℕ → Type 0) (c : C
   by_end at n (fault vs r p) h e = let f = row-fault list at n vs r p h e in of_number r p f.0 f.1
 
   by_count : (at : ℕ) (r : Read) → at ≤ length list → number_at list at ≡ r → Refusing Q (after_count list lent at r)
-  by_count at (Number n p) h e =
-      cond-holds (Refusing Q) (leb n most_words) _ (refused TooManyWords at)
-      (λ t. cond-holds (Refusing Q) (leb (4 * n) lent.report) _ (refused BadLength 0)
-      (λ k. by_end p n (numbers_at list p n) (number_within list at n p e).inside refl)
-      (λ k. c.report n (leb-true n most_words t) (leb-false (4 * n) lent.report k)))
+  by_count at (Ok x) h e =
+      cond-holds (Refusing Q) (leb x.value most_words) _ (refused TooManyWords at)
+      (λ t. cond-holds (Refusing Q) (leb (4 * x.value) lent.report) _ (refused BadLength 0)
+      (λ k. by_end x.next x.value (numbers_at list x.next x.value) (number_within list at x.value x.next e).inside refl)
+      (λ k. c.report x.value (leb-true x.value most_words t) (leb-false (4 * x.value) lent.report k)))
       (λ t. c.many at h)
-  by_count at (Fault r p) h e = let f = number_fault list at r p e in of_number r p (omega arith) f.1
+  by_count at (Err x) h e = let f = number_fault list at x.refusal x.place e in of_number x.refusal x.place (omega arith) f.1
 
   by-asking : (s : Settings) (bytes : List ℕ) (w : Found (List ℕ)) → Refusing Q w → Refusing Q (asking s bytes w)
   by-asking s bytes (found ws) h = tt
@@ -226,22 +226,22 @@ module _ (list t : List ℕ) where
       (ne_eqb p (length (list ++ t)) (λ (q : p ≡ length (list ++ t)). omega (arith, longer)) ∙ sym (ne_eqb p (length list) (λ (q : p ≡ length list). omega arith)))
   far_end (fault vs r p) at n h e = refl
 
-  far_count : (lent : Lent) (at : ℕ) (r : Read) → at + 2 + most_words * 5 < length list → number_at list at ≡ r → after_count (list ++ t) lent at r ≡ after_count list lent at r
-  far_count lent at (Number n p) h e =
-      cond_then (leb n most_words) _ _ (refused TooManyWords at)
-      (λ k. cond_then (leb (4 * n) lent.report) _ _ (refused BadLength 0)
+  far_count : (lent : Lengths) (at : ℕ) (r : Read) → at + 2 + most_words * 5 < length list → number_at list at ≡ r → after_count (list ++ t) lent at r ≡ after_count list lent at r
+  far_count lent at (Ok x) h e =
+      cond_then (leb x.value most_words) _ _ (refused TooManyWords at)
+      (λ k. cond_then (leb (4 * x.value) lent.report) _ _ (refused BadLength 0)
       (λ _.
-      let few = leb-true n most_words k in
-      let w = number_within list at n p e in
-      let room-left : p + 5 * n < length list = omega (arith, w.long, put_length_2 n (omega arith)) in
-      ap (ended_at (list ++ t)) (row_far list t p n (omega arith)) ∙ far_end (numbers_at list p n) p n room-left refl))
-  far_count lent at (Fault r p) h e = refl
+      let few = leb-true x.value most_words k in
+      let w = number_within list at x.value x.next e in
+      let room-left : x.next + 5 * x.value < length list = omega (arith, w.long, put_length_2 x.value (omega arith)) in
+      ap (ended_at (list ++ t)) (row_far list t x.next x.value (omega arith)) ∙ far_end (numbers_at list x.next x.value) x.next x.value room-left refl))
+  far_count lent at (Err f) h e = refl
 
-  far_words : (lent : Lent) (at : ℕ) → at + 2 + most_words * 5 < length list → words_from (list ++ t) lent at ≡ words_from list lent at
+  far_words : (lent : Lengths) (at : ℕ) → at + 2 + most_words * 5 < length list → words_from (list ++ t) lent at ≡ words_from list lent at
   unfolding words_from
   far_words lent at h = ap (after_count (list ++ t) lent at) (number_far list t at (omega arith)) ∙ far_count lent at (number_at list at) h refl
 
-  far_z : (lent : Lent) (s : Settings) (at : ℕ) → right_lengths s lent.z lent.za ≡ true → at + lent.z + 2 + most_words * 5 < length list
+  far_z : (lent : Lengths) (s : Settings) (at : ℕ) → right_lengths s lent.z lent.za ≡ true → at + lent.z + 2 + most_words * 5 < length list
       → z_from (list ++ t) lent s at ≡ z_from list lent s at
   far_z lent s at l h =
       z_exact (list ++ t) lent s at l
@@ -250,7 +250,7 @@ module _ (list t : List ℕ) where
       (far_words lent (at + lent.z) h))
       ∙ sym (z_exact list lent s at l)
 
-  far_row : (lent : Lent) (m : Numbers) → longest < length list → numbers_at list 0 7 ≡ m → headed (list ++ t) lent m ≡ headed list lent m
+  far_row : (lent : Lengths) (m : Numbers) → longest < length list → numbers_at list 0 7 ≡ m → headed (list ++ t) lent m ≡ headed list lent m
   unfolding settled_from
   far_row lent (all head at) h e =
       cond_then (valid_settings (settings_of head)) _ _ (refused BadSettings 0)
@@ -263,6 +263,6 @@ module _ (list t : List ℕ) where
       far_z lent (settings_of head) at l (omega arith)))
   far_row lent (fault vs r p) h e = refl
 
-  pub far : (lent : Lent) → longest < length list → plan_of (list ++ t) lent ≡ plan_of list lent
+  pub far : (lent : Lengths) → longest < length list → plan_of (list ++ t) lent ≡ plan_of list lent
   unfolding plan_of
   far lent h = ap (headed (list ++ t) lent) (row_far list t 0 7 (omega arith)) ∙ far_row lent (numbers_at list 0 7) h refl

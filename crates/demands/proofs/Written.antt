@@ -12,12 +12,12 @@ use Rattle.laws.specs.Lists.{Each}
 use Rattle.laws.proofs.Lists.{elements, elements_are}
 use Rattle.settings.specs.Valid.{valid_settings, vector_bytes, array_bytes}
 use Rattle.settings.specs.declared.Settings.{Settings}
-use Rattle.numbers.specs.Numbers.{put_in, put, puts, all, number_at, numbers_at}
-use Rattle.numbers.specs.declared.Read.TheVariants.{Number}
+use Rattle.numbers.specs.Numbers.{put_in, put, puts, all, number, number_at, numbers_at}
 use Rattle.numbers.proofs.Places.{number_put}
 use Rattle.numbers.proofs.Rows.{row_count}
 use Rattle.numbers.proofs.Forms.{number_form, row_form, row_put}
-use Rattle.runlist.specs.Plan.{Lent, Found, found, Asked, ended_at, words_from, asking, settled_from, settings_of, headed, plan_of}
+use Rattle.runlist.specs.Plan.{Found, found, Asked, ended_at, words_from, asking, settled_from, settings_of, headed, plan_of}
+use Rattle.runlist.specs.declared.Lengths.{Lengths}
 use Rattle.runlist.proofs.Plans.{words_counted, z_read}
 use Rattle.demands.specs.Lists.{longest, FitsLent, numbers_of, list_of, Askable, WrittenIsRead, OneList, LongestReached}
 use Rattle.demands.specs.ListExamples.{lent_with, before_count, most_asked, MostWords}
@@ -53,7 +53,7 @@ one_list list lent a e =
 
 -- ---- what is written is read
 
-module _ (lent : Lent) (a : Asked) (k : Askable lent a) where
+module _ (lent : Lengths) (a : Asked) (k : Askable lent a) where
   head : List ℕ
   head = puts (numbers_of a.settings)
 
@@ -80,11 +80,11 @@ module _ (lent : Lent) (a : Asked) (k : Askable lent a) where
   small_count : length a.words < 4294967296
   small_count = omega (arith, k.fits.few)
 
-  count_is : number_at (list_of a) (length head + lent.z) ≡ Number (length a.words) words_place
+  count_is : number_at (list_of a) (length head + lent.z) ≡ number (length a.words) words_place
   unfolding words_place behind
   count_is =
       ap₂ number_at to_count (sym count_place) ∙ number_put (head ++ a.z) (length a.words) (puts a.words) small_count
-      ∙ ap (Number (length a.words)) (sym (length-append (head ++ a.z) (put (length a.words))))
+      ∙ ap (number (length a.words)) (sym (length-append (head ++ a.z) (put (length a.words))))
 
   words_are : numbers_at (list_of a) words_place (length a.words) ≡ all a.words (length (list_of a))
   unfolding words_place
@@ -141,7 +141,7 @@ alike vl features modes w z n x =
     }
 
 -- where it fits, it is understood
-alike_read : (vl features modes w : ℕ) (b : List ℕ) (n x : ℕ) (lent : Lent) → vl < 2 ^ 32 → features < 2 ^ 32 → modes < 2 ^ 32 → w < 2 ^ 32 → x < 2 ^ 32
+alike_read : (vl features modes w : ℕ) (b : List ℕ) (n x : ℕ) (lent : Lengths) → vl < 2 ^ 32 → features < 2 ^ 32 → modes < 2 ^ 32 → w < 2 ^ 32 → x < 2 ^ 32
     → FitsLent lent (alike vl features modes w b n x)
     → plan_of (list_of (alike vl features modes w b n x)) lent ≡ found (alike vl features modes w b n x)
 unfolding alike

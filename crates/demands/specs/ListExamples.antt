@@ -15,7 +15,8 @@ use Rattle.lanes.specs.Element.{new_element, new_bytes}
 use Rattle.machine.specs.Step.{stride, selected, first_vector, some_below, writes_vector, new_vector, za_after}
 use Rattle.machine.specs.Execute.{stepped, execute_paper}
 use Rattle.machine.specs.Run.{run_of}
-use Rattle.runlist.specs.Plan.{Lent, Asked, found, refused, words_from, z_from, settled_from, settings_of, plan_of}
+use Rattle.runlist.specs.Plan.{Asked, found, refused, words_from, z_from, settled_from, settings_of, plan_of}
+use Rattle.runlist.specs.declared.Lengths.{Lengths}
 use Rattle.runlist.specs.RunList.{Ended, no_tally, tallied, fours, refused_at, run_paper}
 use Rattle.demands.specs.Lists.{longest}
 
@@ -85,7 +86,7 @@ unfolding run_paper plan_of numbers_at number_at numeral
 empty_list_run = refl
 
 -- Z and ZA as long as VL 128 asks for, and a report of n numbers
-abbrev pub lent_with : ℕ → Lent
+abbrev pub lent_with : ℕ → Lengths
 lent_with n = record { z = 512; za = 256; report = n }
 
 -- ---- row 15 of "Lines to try on the bench": 1,024 words (of one byte), and 1,025

@@ -8,7 +8,8 @@ use Rattle.settings.specs.declared.Refusal.TheVariants.{BadSettings, BadLength, 
 use Rattle.settings.specs.declared.Settings.{Settings}
 use Rattle.numbers.specs.Numbers.{put, puts}
 use Rattle.machine.specs.Execute.{right_lengths}
-use Rattle.runlist.specs.Plan.{Lent, found, refused, Asked, most_words, plan_of}
+use Rattle.runlist.specs.Plan.{found, refused, Asked, most_words, plan_of}
+use Rattle.runlist.specs.declared.Lengths.{Lengths}
 use Rattle.runlist.specs.RunList.{run_paper}
 
 -- ---- how long a list can be
@@ -20,21 +21,21 @@ longest = 2 + 1 + 1 + 4 * 5 + 2048 + 2 + most_words * 5
 
 -- no accepted list is longer
 abbrev pub AtMostLongest : Type 0
-AtMostLongest = (list : List ℕ) (lent : Lent) (a : Asked) → plan_of list lent ≡ found a → length list ≤ longest
+AtMostLongest = (list : List ℕ) (lent : Lengths) (a : Asked) → plan_of list lent ≡ found a → length list ≤ longest
 
 -- "10, bytes after the last word", at "the first extra byte": an accepted list is not the beginning of another
 abbrev pub OnlyWhole : Type 0
 OnlyWhole =
-    (list : List ℕ) (lent : Lent) (a : Asked) → plan_of list lent ≡ found a
+    (list : List ℕ) (lent : Lengths) (a : Asked) → plan_of list lent ≡ found a
     → (t : List ℕ) → t ≢ [] → plan_of (list ++ t) lent ≡ refused ExtraBytes (length list)
 
 -- "the first fault deciding": a longer list has it within itself, so that bytes after the list change nothing
 abbrev pub FirstBytesDecide : Type 0
-FirstBytesDecide = (list t : List ℕ) (lent : Lent) → longest < length list → plan_of (list ++ t) lent ≡ plan_of list lent
+FirstBytesDecide = (list t : List ℕ) (lent : Lengths) → longest < length list → plan_of (list ++ t) lent ≡ plan_of list lent
 
 -- so of any list it is enough to have one byte more than the longest
 abbrev pub EnoughBytes : Type 0
-EnoughBytes = (k : ℕ) → longest < k → (list : List ℕ) (lent : Lent) → plan_of (take k list) lent ≡ plan_of list lent
+EnoughBytes = (k : ℕ) → longest < k → (list : List ℕ) (lent : Lengths) → plan_of (take k list) lent ≡ plan_of list lent
 
 -- and the run of those bytes ends as that of the whole list
 abbrev pub RunOfEnough : Type 0
@@ -43,7 +44,7 @@ RunOfEnough = (k : ℕ) → longest < k → (list z za report : List ℕ) → ru
 -- ---- what holds of an accepted list
 
 -- the settings are valid, the lengths of Z and ZA "exact"; the list has all Z bytes; n is not "above 1,024", and the report has "at least" 4n "numbers"
-pub record FitsLent (lent : Lent) (a : Asked) : Type 0 where
+pub record FitsLent (lent : Lengths) (a : Asked) : Type 0 where
   pub valid : valid_settings a.settings ≡ true
   pub exact : right_lengths a.settings lent.z lent.za ≡ true
   pub z_bytes : length a.z ≡ lent.z
@@ -52,7 +53,7 @@ pub record FitsLent (lent : Lent) (a : Asked) : Type 0 where
 
 -- what is asked for fits what was lent
 abbrev pub LengthsHold : Type 0
-LengthsHold = (list : List ℕ) (lent : Lent) (a : Asked) → plan_of list lent ≡ found a → FitsLent lent a
+LengthsHold = (list : List ℕ) (lent : Lengths) (a : Asked) → plan_of list lent ≡ found a → FitsLent lent a
 
 -- ---- lists that are written
 
@@ -65,7 +66,7 @@ unfoldable pub list_of : Asked → List ℕ
 list_of a = puts (numbers_of a.settings) ++ (a.z ++ (put (length a.words) ++ puts a.words))
 
 -- what can be asked for: it fits what is lent, and each number is "below 2^32"
-pub record Askable (lent : Lent) (a : Asked) : Type 0 where
+pub record Askable (lent : Lengths) (a : Asked) : Type 0 where
   pub fits : FitsLent lent a
   pub four : length a.settings.select ≡ 4
   pub numbers : Each (λ n. n < 2 ^ 32) (numbers_of a.settings)
@@ -73,11 +74,11 @@ pub record Askable (lent : Lent) (a : Asked) : Type 0 where
 
 -- whoever writes a list so is understood
 abbrev pub WrittenIsRead : Type 0
-WrittenIsRead = (lent : Lent) (a : Asked) → Askable lent a → plan_of (list_of a) lent ≡ found a
+WrittenIsRead = (lent : Lengths) (a : Asked) → Askable lent a → plan_of (list_of a) lent ≡ found a
 
 -- and there is no other way to write it
 abbrev pub OneList : Type 0
-OneList = (list : List ℕ) (lent : Lent) (a : Asked) → plan_of list lent ≡ found a → list ≡ list_of a
+OneList = (list : List ℕ) (lent : Lengths) (a : Asked) → plan_of list lent ≡ found a → list ≡ list_of a
 
 -- the longest list is there: at VL 512
 abbrev pub LongestReached : Type 0
@@ -93,11 +94,11 @@ RefusedKeeps =
 
 -- its place is in the list, or at its end
 abbrev pub PlaceInside : Type 0
-PlaceInside = (list : List ℕ) (lent : Lent) (r : Refusal) (p : ℕ) → plan_of list lent ≡ refused r p → p ≤ length list
+PlaceInside = (list : List ℕ) (lent : Lengths) (r : Refusal) (p : ℕ) → plan_of list lent ≡ refused r p → p ≤ length list
 
 -- however long the list is, that is within the bytes that decide
 abbrev pub PlaceNear : Type 0
-PlaceNear = (list : List ℕ) (lent : Lent) (r : Refusal) (p : ℕ) → plan_of list lent ≡ refused r p → p ≤ longest + 1
+PlaceNear = (list : List ℕ) (lent : Lengths) (r : Refusal) (p : ℕ) → plan_of list lent ≡ refused r p → p ≤ longest + 1
 
 -- so both numbers that a run answers are small
 abbrev pub RunSmall : Type 0
@@ -120,4 +121,4 @@ OfList ShortRoom p = ⊥
 
 -- no other is given to a list: "0 with every other refusal" than 7 to 10
 abbrev pub RefusedWith : Type 0
-RefusedWith = (list : List ℕ) (lent : Lent) (r : Refusal) (p : ℕ) → plan_of list lent ≡ refused r p → OfList r p
+RefusedWith = (list : List ℕ) (lent : Lengths) (r : Refusal) (p : ℕ) → plan_of list lent ≡ refused r p → OfList r p

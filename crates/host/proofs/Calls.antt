@@ -1,5 +1,5 @@
 -- From what a public call promises, and what is put down of its answer, to what the C function promises. Assumes nothing.
-use Rattle.std.specs.Prelude.{Some, None, Result}
+use Rattle.std.specs.Prelude.{Some, None, Result, Ok, Err}
 use Prim.Native.Nat.{ℕ, ◌<◌, ◌^◌}
 use native.Mathlib.Omega.{arith}
 use mathlib.Core.Path.{◌≡◌, ap, ◌∙◌}
@@ -13,8 +13,8 @@ use Rattle.words.specs.declared.Fields.{Fields}
 use Rattle.machine.specs.Execute.{Outcome}
 use Rattle.runlist.specs.Plan.{settings_of}
 use Rattle.runlist.specs.RunList.{Ended}
-use Rattle.runlist.specs.declared.RunAnswer.{RunAnswer}
-use Rattle.runlist.specs.declared.RunAnswer.TheVariants as answer
+use Rattle.numbers.specs.declared.Fault.{Fault}
+use Rattle.runlist.specs.declared.Ran.{Ran}
 use Rattle.spelling.specs.Print.{printed_says}
 use Rattle.spelling.specs.Language.{read_says}
 use Rattle.spelling.specs.declared.Printed.{Printed}
@@ -56,16 +56,16 @@ module _ (settings : List ℕ) (s : Settings) (e : s ≡ settings_of settings) w
   read_said text a r p h = rw (← e, h) p
 
 module _ (list z za report : List ℕ) where
-  pub run_said : (totals : List ℕ) (a : RunAnswer) (r : ℕ) (z' za' report' totals' : List ℕ) → RunPromise list z za report a z' za' report'
+  pub run_said : (totals : List ℕ) (a : Result Ran Fault) (r : ℕ) (z' za' report' totals' : List ℕ) → RunPromise list z za report a z' za' report'
       → RanPut a totals r totals' → HostRun list z za report totals r z' za' report' totals'
   unfolding host_run
   run_said totals a r z' za' report' totals' p h = h z' za' report' ∙ ap (λ (o : Ended). ran_into o totals) p
 
   -- the count of words and the place have 32 bits
-  pub run_fits : (a : RunAnswer) (z' za' report' : List ℕ) → RunPromise list z za report a z' za' report' → FitsHalf a
-  run_fits (answer.Ran n t) z' za' report' p =
+  pub run_fits : (a : Result Ran Fault) (z' za' report' : List ℕ) → RunPromise list z za report a z' za' report' → FitsHalf a
+  run_fits (Ok r) z' za' report' p =
       omega (arith, ap (λ (o : Ended). o.words) p, (run_small list z za report).1)
-  run_fits (answer.Refused x q) z' za' report' p =
+  run_fits (Err f) z' za' report' p =
       omega (arith, ap (λ (o : Ended). o.place) p, (run_small list z za report).0)
 
 -- the length of a text has 32 bits

@@ -10,16 +10,21 @@ use lib.ListN.{take, replicate, length-replicate, replicate-append-replicate}
 use lib.Seq.{take_at}
 use Rattle.settings.proofs.Lengths.{length_at_most}
 use Rattle.settings.specs.Valid.{valid_length}
-use Rattle.numbers.specs.declared.Read.{Read}
-use Rattle.numbers.specs.declared.Read.TheVariants.{Number}
+use Rattle.std.specs.Prelude.{Ok, Err}
+use Rattle.numbers.specs.Numbers.{Read}
+use Rattle.numbers.specs.declared.Fault.{Fault}
+use Rattle.numbers.specs.declared.Number.{Number}
 use Rattle.lamp.specs.Lamp.{lines_of, register_of, register_bytes, printed}
 
-module _ (first : Read) (vl next : ℕ) (e : first ≡ Number vl next) where
-  pub register_valid : valid_length vl ≡ true → (vl / 8 ≡ register_of first) × (vl / 8 ≤ 64)
-  register_valid v = (sym (ap register_of e ∙ rw v), length_at_most vl v)
+module _ (first : Read) where
+  pub register_valid : (n : Number) → first ≡ Ok n → valid_length n.value ≡ true → (n.value / 8 ≡ register_of first) × (n.value / 8 ≤ 64)
+  register_valid n e v = (sym (ap register_of e ∙ rw v), length_at_most n.value v)
 
-  pub register_not : valid_length vl ≡ false → (0 ≡ register_of first) × (0 ≤ 64)
-  register_not v = (sym (ap register_of e ∙ rw v), lit≤ tt)
+  pub register_not : (n : Number) → first ≡ Ok n → valid_length n.value ≡ false → (0 ≡ register_of first) × (0 ≤ 64)
+  register_not n e v = (sym (ap register_of e ∙ rw v), lit≤ tt)
+
+  pub register_none : (f : Fault) → first ≡ Err f → (0 ≡ register_of first) × (0 ≤ 64)
+  register_none f e = (sym (ap register_of e), lit≤ tt)
 
 -- ---- the zeros that are lent
 

@@ -1,10 +1,9 @@
 -- What the list program prints of a list (document 01, "The run list").
-use Rattle.std.specs.Prelude.{ℕ, ◌+◌, ◌*◌, ◌/◌, ◌≡◌, cond, List, [], eqb, length, take, replicate}
+use Rattle.std.specs.Prelude.{ℕ, ◌+◌, ◌*◌, ◌/◌, ◌≡◌, cond, List, [], eqb, length, take, replicate, Ok, Err}
 use Rattle.settings.specs.Valid.{valid_length}
-use Rattle.numbers.specs.Numbers.{number_at}
-use Rattle.numbers.specs.declared.Read.{Read}
-use Rattle.numbers.specs.declared.Read.TheVariants.{Number, Fault}
-use Rattle.runlist.specs.Plan.{Lent, lengths_of, Found, found, refused, Asked, most_words, plan_of}
+use Rattle.numbers.specs.Numbers.{Read, number_at}
+use Rattle.runlist.specs.Plan.{lengths_of, Found, found, refused, Asked, most_words, plan_of}
+use Rattle.runlist.specs.declared.Lengths.{Lengths}
 use Rattle.runlist.specs.RunList.{Ended, run_paper}
 use Rattle.lines.specs.Lines.{refused_line, ran_lines}
 
@@ -26,15 +25,15 @@ lines_of list z za report = text_of (words_of (plan_of list (lengths_of z za rep
 
 -- VL/8, where the number that was read is a VL
 abbrev pub register_of : Read → ℕ
-register_of (Number vl next) = cond (valid_length vl) (vl / 8) 0
-register_of (Fault r p) = 0
+register_of (Ok n) = cond (valid_length n.value) (n.value / 8) 0
+register_of (Err f) = 0
 
 -- the bytes of a Z register, by the list's first number; 0 where that is no VL: such a list is refused before a length is tested
 unfoldable pub register_bytes : List ℕ → ℕ
 register_bytes list = register_of (number_at list 0)
 
 -- how long what it lends is: Z and ZA as the list asks for, and four numbers for each word that a list may have
-abbrev pub lent_to : List ℕ → Lent
+abbrev pub lent_to : List ℕ → Lengths
 lent_to list = record { z = 32 * register_bytes list; za = register_bytes list * register_bytes list; report = 4 * most_words }
 
 -- what is printed: zeros are lent
@@ -45,5 +44,5 @@ printed list =
 -- ---- only a contract uses this
 
 -- the words of an accepted list stand in front
-abbrev pub WordsAgain : List ℕ → Lent → List ℕ → Type 0
+abbrev pub WordsAgain : List ℕ → Lengths → List ℕ → Type 0
 WordsAgain list lent words = (a : Asked) → plan_of list lent ≡ found a → take (length a.words) words ≡ a.words

@@ -7,9 +7,7 @@ ghost use Rattle.demands.specs.Lists.{longest};
 ghost use Rattle.lamp.specs.Lamp.{lines_of, register_of, register_bytes, printed, WordsAgain};
 
 use arrayvec::ArrayString;
-use callinglamp::RunAnswer;
-use numbers::Read;
-use runlist::Front;
+use runlist::Lengths;
 use std::io;
 
 // How much of the input is kept.
@@ -29,44 +27,22 @@ const TEXT: usize = 96 + 96 * runlist::MOST_WORDS;
 fn register_bytes(list: &[u8]) -> usize
     ensures { (result ≡ register_bytes list.now) × (result ≤ 64) }
 {
-    register_of(numbers::read_number(list, 0))
-}
-
-fn register_of(first: Read) -> usize
-    ensures { (result ≡ register_of first) × (result ≤ 64) }
-{
-    match first {
-        Read::Number { value, next: _ } => {
-            if settings::valid_length(value) {
-                return (value / 8) as usize;
-            }
-            0
-        }
-        Read::Fault {
-            refusal: _,
-            place: _,
-        } => 0,
+    let Ok(first) = numbers::read_number(list, 0) else {
+        return 0;
+    };
+    if settings::valid_length(first.value) {
+        return (first.value / 8) as usize;
     }
+    0
 }
 
 // The words of an accepted list, read again, since the report does not hold them.
-fn words_again(list: &[u8], z: usize, za: usize, report: usize, words: &mut [u32])
+fn words_again(list: &[u8], lengths: Lengths, words: &mut [u32])
     requires { length words.old ≡ most_words }
-    ensures { WordsAgain list.now (record { z = z; za = za; report = report }) words.new }
+    ensures { WordsAgain list.now lengths words.new }
 {
-    let mut head = [0u32; runlist::HEAD];
-    match runlist::read_front(list, z, za, report, &mut head) {
-        Front::Refused {
-            refusal: _,
-            place: _,
-        } => {}
-        Front::Words {
-            at: _,
-            from,
-            words: count,
-        } => {
-            runlist::read_to_end(list, from, &mut words[..count]);
-        }
+    if let Ok(front) = runlist::read_front(list, lengths) {
+        let _ = runlist::read_to_end(list, front.from, &mut words[..front.words]);
     }
 }
 
@@ -83,16 +59,21 @@ fn put_answer(
     ensures { out.new.bytes ≡ lines_of list.now z.old za.old report.old }
 {
     match callinglamp::run(list, z, za, report) {
-        RunAnswer::Refused { refusal, place } => {
-            out.push_str(&lines::refused_line(settings::refusal_number(refusal), place));
+        Err(fault) => {
+            out.push_str(&lines::refused_line(
+                settings::refusal_number(fault.refusal),
+                fault.place,
+            ));
         }
-        RunAnswer::Ran {
-            words: count,
-            tally,
-        } => {
-            words_again(list, z.len(), za.len(), report.len(), words);
-            let toggled = tally.rises + tally.falls;
-            lines::push_ran(out, &words[..count], report, toggled, tally.written);
+        Ok(ran) => {
+            let lengths = Lengths {
+                z: z.len(),
+                za: za.len(),
+                report: report.len(),
+            };
+            words_again(list, lengths, words);
+            let toggled = ran.tally.rises + ran.tally.falls;
+            lines::push_ran(out, &words[..ran.words], report, toggled, ran.tally.written);
         }
     }
 }

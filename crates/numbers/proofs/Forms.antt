@@ -6,15 +6,14 @@ use mathlib.Core.Path.{◌≡◌, sym, ap, ap₂, ◌∙◌}
 use mathlib.Core.List.{List, [], ◌∷◌, ◌++◌, append_assoc}
 use lib.ListN.{length, drop, length-append, take-append-drop}
 use lib.Seq.{drop-drop}
-use Rattle.numbers.specs.Numbers.{number_at, put, puts, all, followed_by, more, numbers_at}
+use Rattle.numbers.specs.Numbers.{number, number_at, put, puts, all, followed_by, more, numbers_at}
 use Rattle.numbers.specs.Theorems.{RowReadBack, RowForm}
-use Rattle.numbers.specs.declared.Read.TheVariants.{Number}
 use Rattle.numbers.proofs.Shortest.{read_shortest}
 use Rattle.numbers.proofs.Places.{number_put, number-got}
 use Rattle.numbers.proofs.Rows.{last_of, puts_last}
 
 -- a number stands in its shortest form in front of what follows it
-pub number_form : (list : List ℕ) (at v p : ℕ) → number_at list at ≡ Number v p → drop at list ≡ put v ++ drop p list
+pub number_form : (list : List ℕ) (at v p : ℕ) → number_at list at ≡ number v p → drop at list ≡ put v ++ drop p list
 number_form list at v p h =
     let (m, q, y) = number-got list at v p h in
     sym (take-append-drop m (drop at list))
@@ -34,7 +33,7 @@ row_form list at (suc n) ws p e =
     ∙ ap (λ (t : List ℕ). t ++ drop p list) (sym (puts_last l.before l.value) ∙ ap puts (sym l.numbers))
 
 -- a number in front of a row
-row_cons : (list : List ℕ) (at v q n : ℕ) (ws : List ℕ) (p : ℕ) → number_at list at ≡ Number v q → numbers_at list q n ≡ all ws p → numbers_at list at (suc n) ≡ all (v ∷ ws) p
+row_cons : (list : List ℕ) (at v q n : ℕ) (ws : List ℕ) (p : ℕ) → number_at list at ≡ number v q → numbers_at list q n ≡ all ws p → numbers_at list at (suc n) ≡ all (v ∷ ws) p
 unfolding numbers_at
 row_cons list at v q zero ws p e f =
     let none : [] ≡ ws = cc in
@@ -56,9 +55,9 @@ row_put before (w ∷ ws) t e = go (row_put (before ++ put w) ws t e.1)
     go ih =
         let join : (before ++ put w) ++ (puts ws ++ t) ≡ before ++ ((put w ++ puts ws) ++ t) =
         append_assoc before (put w) (puts ws ++ t) ∙ ap (λ (x : List ℕ). before ++ x) (sym (append_assoc (put w) (puts ws) t)) in
-        let here : number_at (before ++ ((put w ++ puts ws) ++ t)) (length before) ≡ Number w (length (before ++ put w)) =
+        let here : number_at (before ++ ((put w ++ puts ws) ++ t)) (length before) ≡ number w (length (before ++ put w)) =
         ap (λ (x : List ℕ). number_at (before ++ x) (length before)) (append_assoc (put w) (puts ws) t)
-        ∙ number_put before w (puts ws ++ t) e.0 ∙ ap (Number w) (sym (length-append before (put w))) in
+        ∙ number_put before w (puts ws ++ t) e.0 ∙ ap (number w) (sym (length-append before (put w))) in
         let rest = ap (λ (l : List ℕ). numbers_at l (length (before ++ put w)) (length ws)) (sym join) ∙ ih in
         row_cons (before ++ ((put w ++ puts ws) ++ t)) (length before) w (length (before ++ put w)) (length ws) ws _ here rest
         ∙ ap (all (w ∷ ws)) (omega (arith, length-append before (put w), length-append (put w) (puts ws)))

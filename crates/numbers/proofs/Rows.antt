@@ -11,10 +11,10 @@ use lib.Seq.{drop-length, length-take-le, take-suc-set, drop-set-lt}
 use Rattle.laws.proofs.Lists.{drop_more}
 use Rattle.settings.specs.declared.Refusal.{Refusal}
 use Rattle.settings.specs.declared.Refusal.TheVariants.{ListEnds, BadNumber}
-use Rattle.numbers.specs.declared.Read.{Read}
-use Rattle.numbers.specs.declared.Read.TheVariants.{Number, Fault}
-use Rattle.numbers.specs.declared.Row.TheVariants as row
-use Rattle.numbers.specs.Numbers.{number_at, put, puts, Numbers, all, fault, followed_by, more, numbers_at, values_of, row_of, filled}
+use Rattle.numbers.specs.declared.Fault.{Fault}
+use Rattle.numbers.specs.declared.Number.{Number}
+use Rattle.std.specs.Prelude.{Ok, Err}
+use Rattle.numbers.specs.Numbers.{Read, number, no_number, number_at, put, puts, Numbers, all, fault, followed_by, more, numbers_at, values_of, row_of, filled, answer_of, place_after}
 use Rattle.numbers.proofs.Shortest.{put-length}
 use Rattle.numbers.proofs.Places.{number_kept, number_far, number_within, number_fault}
 
@@ -26,21 +26,21 @@ pub record LastIs (list : List ℕ) (m : Numbers) (ws : List ℕ) (p : ℕ) : Ty
   pub place : ℕ
   pub value : ℕ
   pub row : m ≡ all before place
-  pub number : number_at list place ≡ Number value p
+  pub number : number_at list place ≡ number value p
   pub numbers : ws ≡ before ++ value ∷ []
 
 last_number : (list vs : List ℕ) (q : ℕ) (r : Read) (ws : List ℕ) (p : ℕ) → number_at list q ≡ r → followed_by vs r ≡ all ws p → LastIs list (all vs q) ws p
-last_number list vs q (Number w n) ws p f e =
-    let last : n ≡ p = cc in
+last_number list vs q (Ok x) ws p f e =
+    let last : x.next ≡ p = cc in
     record {
       before = vs;
       place = q;
-      value = w;
+      value = x.value;
       row = refl;
-      number = f ∙ ap (Number w) last;
+      number = f ∙ ap (number x.value) last;
       numbers = cc;
     }
-last_number list vs q (Fault k n) ws p f e = let z : ◌≡◌ {A = ℕ} 0 1 = cc in absurd (omega arith)
+last_number list vs q (Err x) ws p f e = let z : ◌≡◌ {A = ℕ} 0 1 = cc in absurd (omega arith)
 
 pub last_of : (list : List ℕ) (m : Numbers) (ws : List ℕ) (p : ℕ) → more list m ≡ all ws p → LastIs list m ws p
 last_of list (all vs q) ws p e = last_number list vs q (number_at list q) ws p refl e
@@ -50,18 +50,18 @@ last_of list (fault vs k q) ws p e = let z : ◌≡◌ {A = ℕ} 0 1 = cc in abs
 record FaultIs (list : List ℕ) (m : Numbers) (vs : List ℕ) (k : Refusal) (p : ℕ) : Type 0 where
   pub place : ℕ
   pub row : m ≡ all vs place
-  pub number : number_at list place ≡ Fault k p
+  pub number : number_at list place ≡ no_number k p
 
 fault_number : (list us : List ℕ) (q : ℕ) (r : Read) (vs : List ℕ) (k : Refusal) (p : ℕ) → number_at list q ≡ r → followed_by us r ≡ fault vs k p → FaultIs list (all us q) vs k p
-fault_number list us q (Number w n) vs k p f e = let z : ◌≡◌ {A = ℕ} 0 1 = cc in absurd (omega arith)
-fault_number list us q (Fault j n) vs k p f e =
+fault_number list us q (Ok x) vs k p f e = let z : ◌≡◌ {A = ℕ} 0 1 = cc in absurd (omega arith)
+fault_number list us q (Err x) vs k p f e =
     let same : us ≡ vs = cc in
-    let why : j ≡ k = cc in
-    let where-it-is : n ≡ p = cc in
+    let why : x.refusal ≡ k = cc in
+    let where-it-is : x.place ≡ p = cc in
     record {
       place = q;
       row = ap (λ (x : List ℕ). all x q) same;
-      number = f ∙ ap₂ Fault why where-it-is;
+      number = f ∙ ap₂ no_number why where-it-is;
     }
 
 fault_of : (list : List ℕ) (m : Numbers) (vs : List ℕ) (k : Refusal) (p : ℕ) → more list m ≡ fault vs k p → (m ≡ fault vs k p) ⊎ FaultIs list m vs k p
@@ -96,20 +96,20 @@ row_within list at (suc n) ws p h e =
     (omega arith, w.inside, omega arith)
 
 -- the first number of a row stands at the row's place
-pub row_first : (list : List ℕ) (at n : ℕ) (ws : List ℕ) (p : ℕ) → numbers_at list at (suc n) ≡ all ws p → (q : ℕ) × (number_at list at ≡ Number (get_or ws 0 0) q)
+pub row_first : (list : List ℕ) (at n : ℕ) (ws : List ℕ) (p : ℕ) → numbers_at list at (suc n) ≡ all ws p → (q : ℕ) × (number_at list at ≡ number (get_or ws 0 0) q)
 unfolding numbers_at
 row_first list at zero ws p e =
     let l = last_of list (all [] at) ws p e in
     let none : [] ≡ l.before = cc in
     let here : at ≡ l.place = cc in
     let value : get_or ws 0 0 ≡ l.value = ap (λ (x : List ℕ). get_or x 0 0) (l.numbers ∙ ap (λ (x : List ℕ). x ++ l.value ∷ []) (sym none)) in
-    (p, ap (number_at list) here ∙ l.number ∙ ap (λ (v : ℕ). Number v p) (sym value))
+    (p, ap (number_at list) here ∙ l.number ∙ ap (λ (v : ℕ). number v p) (sym value))
 row_first list at (suc n) ws p e =
     let l = last_of list (numbers_at list at (suc n)) ws p e in
     let b = row_first list at n l.before l.place l.row in
     let some : 0 < length l.before = omega (arith, row_count list at (suc n) l.before l.place l.row) in
     let same : get_or ws 0 0 ≡ get_or l.before 0 0 = ap (λ (x : List ℕ). get_or x 0 0) l.numbers ∙ get_or-append l.before (l.value ∷ []) 0 0 some in
-    (b.0, b.1 ∙ ap (λ (v : ℕ). Number v b.0) (sym same))
+    (b.0, b.1 ∙ ap (λ (v : ℕ). number v b.0) (sym same))
 
 -- bytes after the list change nothing in a row that was read
 pub row_kept : (list t : List ℕ) (at n : ℕ) (ws : List ℕ) (p : ℕ) → numbers_at list at n ≡ all ws p → numbers_at (list ++ t) at n ≡ all ws p
@@ -177,7 +177,7 @@ row_place list at (suc n) ws p e =
 -- ---- what an answer of read_numbers says
 
 -- without a fault, the numbers are all there
-pub told-all : (m : Numbers) (p : ℕ) → row_of m ≡ row.Next p → m ≡ all (values_of m) p
+pub told-all : (m : Numbers) (p : ℕ) → row_of m ≡ Ok p → m ≡ all (values_of m) p
 unfolding row_of values_of
 told-all (all ws q) p e =
     let same : q ≡ p = cc in
@@ -185,12 +185,12 @@ told-all (all ws q) p e =
 told-all (fault vs k q) p e = let z : ◌≡◌ {A = ℕ} 0 1 = cc in absurd (omega arith)
 
 -- with one, it is the row's
-pub told-fault : (m : Numbers) (k : Refusal) (p : ℕ) → row_of m ≡ row.Fault k p → m ≡ fault (values_of m) k p
+pub told-fault : (m : Numbers) (f : Fault) → row_of m ≡ Err f → m ≡ fault (values_of m) f.refusal f.place
 unfolding row_of values_of
-told-fault (all ws q) k p e = let z : ◌≡◌ {A = ℕ} 0 1 = cc in absurd (omega arith)
-told-fault (fault vs j q) k p e =
-    let why : j ≡ k = cc in
-    let same : q ≡ p = cc in
+told-fault (all ws q) f e = let z : ◌≡◌ {A = ℕ} 0 1 = cc in absurd (omega arith)
+told-fault (fault vs j q) f e =
+    let why : j ≡ f.refusal = cc in
+    let same : q ≡ f.place = cc in
     ap₂ (fault vs) why same
 
 -- a row that was read fills out with its numbers, and nothing else
@@ -203,6 +203,15 @@ filled-all list at out ws p e =
     ∙ append-nil ws
 
 -- ---- the loop of read_numbers
+
+-- what the reader answers, and where it then stands, is what stands at its place
+pub number_back : (r : Read) (at v p : ℕ) → Ok v ≡ answer_of r → p ≡ place_after r at → r ≡ number v p
+number_back (Ok x) at v p e h = let same : v ≡ x.value = cc in ap₂ number (sym same) (sym h)
+number_back (Err f) at v p e h = cc
+
+pub fault_back : (r : Read) (f : Fault) → Err f ≡ answer_of r → r ≡ Err f
+fault_back (Ok x) f e = cc
+fault_back (Err g) f e = cc
 
 -- i numbers have been read into out, which was out₀, and the next is due
 pub record Filling (list : List ℕ) (at : ℕ) (out₀ out : List ℕ) (due i : ℕ) : Type 0 where
@@ -237,40 +246,40 @@ module _ (list : List ℕ) (at : ℕ) where
 
 module _ {list : List ℕ} {at : ℕ} {out₀ out : List ℕ} {due i : ℕ} (f : Filling list at out₀ out due i) where
   -- a turn
-  pub one_more : (v next : ℕ) → i < length out → number_at list due ≡ Number v next → Filling list at out₀ (set out i v) next (i + 1)
+  pub one_more : (x : Number) → i < length out → number_at list due ≡ Ok x → Filling list at out₀ (set out i x.value) x.next (i + 1)
   unfolding numbers_at
-  one_more v next h e =
+  one_more x h e =
       record {
         room = simp length-set (omega arith);
         long = simp length-set f.long;
         so_far = rw (add-one, f.so_far, e, take-suc-set);
-        rest = drop-set-lt (i + 1) out i v (omega arith) ∙ drop_more 1 i out out₀ f.rest;
+        rest = drop-set-lt (i + 1) out i x.value (omega arith) ∙ drop_more 1 i out out₀ f.rest;
       }
 
   -- either way out, what was read stands in out, and the rest stays
   rest_stays : (m : Numbers) → numbers_at list at (length out₀) ≡ m → values_of m ≡ take i out → out ≡ filled (numbers_at list at (length out₀)) out₀
   rest_stays m e h = filled_is (numbers_at list at (length out₀)) i out₀ out f.room (ap values_of e ∙ h) f.rest
 
-  stopped : (k : Refusal) (p : ℕ) → i < length out → number_at list due ≡ Fault k p → numbers_at list at (length out₀) ≡ fault (take i out) k p
+  stopped : (x : Fault) → i < length out → number_at list due ≡ Err x → numbers_at list at (length out₀) ≡ fault (take i out) x.refusal x.place
   unfolding numbers_at
-  stopped k p h e =
-      let here : numbers_at list at (suc i) ≡ fault (take i out) k p = rw (f.so_far, e) in
+  stopped x h e =
+      let here : numbers_at list at (suc i) ≡ fault (take i out) x.refusal x.place = rw (f.so_far, e) in
       let split : length out₀ ≡ suc i + (length out₀ - suc i) = omega (arith, f.long) in
-      rw split (fault_stays list at (suc i) (length out₀ - suc i) (take i out) k p here)
+      rw split (fault_stays list at (suc i) (length out₀ - suc i) (take i out) x.refusal x.place here)
 
-  pub out_fault : (k : Refusal) (p : ℕ) → i < length out → number_at list due ≡ Fault k p
-      → (row.Fault k p ≡ row_of (numbers_at list at (length out₀))) × (out ≡ filled (numbers_at list at (length out₀)) out₀)
+  pub out_fault : (x : Fault) → i < length out → number_at list due ≡ Err x
+      → (Err x ≡ row_of (numbers_at list at (length out₀))) × (out ≡ filled (numbers_at list at (length out₀)) out₀)
   unfolding row_of values_of
-  out_fault k p h e =
-      let m = stopped k p h e in
-      (sym (ap row_of m), rest_stays (fault (take i out) k p) m refl)
+  out_fault x h e =
+      let m = stopped x h e in
+      (sym (ap row_of m), rest_stays (fault (take i out) x.refusal x.place) m refl)
 
   finished : length out ≤ i → numbers_at list at (length out₀) ≡ all (take i out) due
   finished h =
       let whole : length out₀ ≡ i = omega (arith, f.long, f.room) in
       rw whole f.so_far
 
-  pub out_all : length out ≤ i → (row.Next due ≡ row_of (numbers_at list at (length out₀))) × (out ≡ filled (numbers_at list at (length out₀)) out₀)
+  pub out_all : length out ≤ i → (Ok due ≡ row_of (numbers_at list at (length out₀))) × (out ≡ filled (numbers_at list at (length out₀)) out₀)
   unfolding row_of values_of
   out_all h =
       let m = finished h in

@@ -11,8 +11,7 @@ use lib.Dec.{ltb}
 use lib.ListN.{length, get_or, drop, drop_of_length-le}
 use lib.Seq.{drop-cons}
 use Rattle.settings.specs.declared.Refusal.TheVariants.{ListEnds, BadNumber}
-use Rattle.numbers.specs.declared.Read.TheVariants.{Number, Fault}
-use Rattle.numbers.specs.Numbers.{Got, got, short, wrong, group_then, greatest_byte, numeral, placed, number_at}
+use Rattle.numbers.specs.Numbers.{Got, got, short, wrong, group_then, greatest_byte, numeral, number, no_number, placed, number_at}
 use Rattle.numbers.proofs.Groups.{fifth_small, fifth_last}
 
 -- what k groups, of the value v, make with what is read after them; s is 128 ^ k
@@ -93,23 +92,23 @@ module _ {list : List ℕ} {at i k s v : ℕ} (r : Reading list at i k s v) wher
       ]
 
   -- the ways out
-  pub out_ends : length list ≤ i → Fault ListEnds at ≡ number_at list at
+  pub out_ends : length list ≤ i → no_number ListEnds at ≡ number_at list at
   unfolding number_at numeral
   out_ends h =
       let e : numeral 0 (drop at list) ≡ short = r.same ∙ ap (λ (l : List ℕ). above v s k (numeral k l)) (drop_of_length-le list h) in
       ap (placed at) (sym e)
 
-  pub out-wrong : numeral k (drop i list) ≡ wrong → Fault BadNumber at ≡ number_at list at
+  pub out-wrong : numeral k (drop i list) ≡ wrong → no_number BadNumber at ≡ number_at list at
   unfolding number_at
   out-wrong h =
       let e : numeral 0 (drop at list) ≡ wrong = r.same ∙ ap (above v s k) h in
       ap (placed at) (sym e)
 
-  pub out_read : (b : ℕ) → numeral k (drop i list) ≡ got b 1 → Number (v + b * s) (i + 1) ≡ number_at list at
+  pub out_read : (b : ℕ) → numeral k (drop i list) ≡ got b 1 → number (v + b * s) (i + 1) ≡ number_at list at
   unfolding number_at
   out_read b h =
       let e : numeral 0 (drop at list) ≡ got (v + s * b) (k + 1) = r.same ∙ ap (above v s k) h in
-      ap₂ Number (omega (arith, mul_comm s b)) (omega (arith, r.place)) ∙ ap (placed at) (sym e)
+      ap₂ number (omega (arith, mul_comm s b)) (omega (arith, r.place)) ∙ ap (placed at) (sym e)
 
   -- a turn
   pub turn : (b : ℕ) → Follows k s v b → numeral k (drop i list) ≡ group_then (b - 128) (numeral (suc k) (drop (suc i) list))

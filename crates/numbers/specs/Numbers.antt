@@ -1,11 +1,9 @@
 -- Document 01, "The run list": "Numbers are in groups of seven bits, low group first, top bit set when another follows, in the shortest form, below 2^32."
-use Rattle.std.specs.Prelude.{ℕ, zero, suc, ◌+◌, ◌-◌, ◌*◌, ◌/◌, ◌%◌, ◌&&◌, cond, List, [], ◌∷◌, ◌++◌, eqb, ltb, length, drop}
+use Rattle.std.specs.Prelude.{ℕ, zero, suc, ◌+◌, ◌-◌, ◌*◌, ◌/◌, ◌%◌, ◌&&◌, cond, List, [], ◌∷◌, ◌++◌, eqb, ltb, length, drop, Result, Ok, Err}
 use Rattle.settings.specs.declared.Refusal.{Refusal}
 use Rattle.settings.specs.declared.Refusal.TheVariants.{ListEnds, BadNumber}
-use Rattle.numbers.specs.declared.Read.{Read}
-use Rattle.numbers.specs.declared.Read.TheVariants.{Number, Fault}
-use Rattle.numbers.specs.declared.Row.{Row}
-use Rattle.numbers.specs.declared.Row.TheVariants as row
+use Rattle.numbers.specs.declared.Fault.{Fault}
+use Rattle.numbers.specs.declared.Number.{Number}
 
 -- ---- one number
 
@@ -34,14 +32,36 @@ numeral k (b ∷ s) =
     (cond (eqb b 0 && ltb 0 k) wrong (got b 1))
     (group_then (b - 128) (numeral (suc k) s)))
 
+-- what stands at a place of a list: a number and the place after it, or what is wrong and its place
+abbrev pub Read : Type 0
+Read = Result Number Fault
+
+abbrev pub number : ℕ → ℕ → Read
+number v n = Ok (record { value = v; next = n })
+
+abbrev pub no_number : Refusal → ℕ → Read
+no_number r p = Err (record { refusal = r; place = p })
+
 -- the same at a place of a list: 7 where the list ends inside the number or before it, 8 where it is wrong; both at its first byte
 abbrev pub placed : ℕ → Got → Read
-placed at (got v n) = Number v (at + n)
-placed at short = Fault ListEnds at
-placed at wrong = Fault BadNumber at
+placed at (got v n) = number v (at + n)
+placed at short = no_number ListEnds at
+placed at wrong = no_number BadNumber at
 
 unfoldable pub number_at : List ℕ → ℕ → Read
 number_at list at = placed at (numeral 0 (drop at list))
+
+-- ---- a reader, which is asked for one number after another
+
+-- what it answers, of what stands at its place
+abbrev pub answer_of : Read → Result ℕ Fault
+answer_of (Ok n) = Ok n.value
+answer_of (Err f) = Err f
+
+-- where it then stands: behind the number, or, at a fault, where it stood
+abbrev pub place_after : Read → ℕ → ℕ
+place_after (Ok n) at = n.next
+place_after (Err f) at = at
 
 -- ---- the shortest form
 
@@ -69,8 +89,8 @@ pub data Numbers : Type 0 where
 
 -- the numbers so far, and what stands after them
 abbrev pub followed_by : List ℕ → Read → Numbers
-followed_by ws (Number w next) = all (ws ++ w ∷ []) next
-followed_by ws (Fault refusal place) = fault ws refusal place
+followed_by ws (Ok n) = all (ws ++ n.value ∷ []) n.next
+followed_by ws (Err f) = fault ws f.refusal f.place
 
 -- one number more: "the first fault deciding"
 abbrev pub more : List ℕ → Numbers → Numbers
@@ -88,9 +108,9 @@ values_of (all ws next) = ws
 values_of (fault ws refusal place) = ws
 
 -- how the row ended
-unfoldable pub row_of : Numbers → Row
-row_of (all ws next) = row.Next next
-row_of (fault ws refusal place) = row.Fault refusal place
+unfoldable pub row_of : Numbers → Result ℕ Fault
+row_of (all ws next) = Ok next
+row_of (fault ws refusal place) = Err (record { refusal = refusal; place = place })
 
 -- those that were read in the first places of out, and the rest of it as it was
 unfoldable pub filled : Numbers → List ℕ → List ℕ

@@ -6,7 +6,6 @@ use mathlib.Core.Bool.{true, false}
 use mathlib.Core.List.{List, [], ◌∷◌}
 use lib.ListN.{get_or}
 use lib.Arith.{digits_div, digits_mod}
-use Rattle.std.specs.Prelude.{Result, Ok, Err}
 use Rattle.laws.proofs.Tests.{cond_yes, cond_no}
 use Rattle.settings.specs.Refused.{refusal_number}
 use Rattle.settings.specs.declared.Refusal.{Refusal}
@@ -14,11 +13,8 @@ use Rattle.settings.proofs.Refusals.{tests_not_0}
 use Rattle.words.specs.Decode.{decoded_says}
 use Rattle.words.specs.declared.Fields.{Fields}
 use Rattle.machine.specs.declared.Counts.{Counts}
-use Rattle.tally.specs.declared.Tally.{Tally}
-use Rattle.runlist.specs.declared.RunAnswer.{RunAnswer}
-use Rattle.runlist.specs.declared.RunAnswer.TheVariants as answer
 use Rattle.words.specs.Numbers.{family_of}
-use Rattle.packing.specs.Packing.{halves, field_at, field_numbers, are_fields, fields_with, fields_from, decoded_into, ExecutedPut, RanPut}
+use Rattle.packing.specs.Packing.{halves, field_at, field_numbers, are_fields, fields_with, fields_from, decoded_into, ExecutedPut}
 use Rattle.packing.specs.Theorems.{HalvesBack}
 
 -- ---- the halves
@@ -57,13 +53,3 @@ module _ (a : Result Counts Refusal) (counts : List ℕ) where
 
   pub executed_done : (c : Counts) → a ≡ Ok c → ExecutedPut a counts 0 (c.rises ∷ c.falls ∷ c.written ∷ [])
   executed_done c e z za = rw e
-
--- ---- run
-
-module _ (a : RunAnswer) (totals : List ℕ) where
-  pub ran_refused : (x : Refusal) (p r : ℕ) → a ≡ answer.Refused x p → halves r ≡ (refusal_number x, p) → RanPut a totals r totals
-  ran_refused x p r e h z za report =
-      rw (e, tests_not_0 x) (ap (λ (q : ℕ × ℕ). record { answer = q; z = z; za = za; report = report; totals = totals }) h)
-
-  pub ran_done : (n : ℕ) (t : Tally) → a ≡ answer.Ran n t → RanPut a totals 0 (n ∷ t.rises ∷ t.falls ∷ t.written ∷ [])
-  ran_done n t e z za report = rw e

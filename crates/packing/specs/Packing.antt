@@ -1,15 +1,15 @@
 -- What C passes and gets, as numbers, as include/callinglamp.h says it: an answer, a word's fields, and what stands in the arrays that a call was lent.
 use Rattle.machine.specs.declared.Counts.{Counts}
 use Rattle.settings.specs.declared.Refusal.{Refusal}
-use Rattle.std.specs.Prelude.{ℕ, ◌+◌, ◌*◌, ◌/◌, ◌%◌, ◌^◌, ◌<◌, ◌≡◌, Bool, ◌&&◌, cond, List, [], ◌∷◌, eqb, leb, get_or, set, replicate, Option, Some, None, Result}
+use Rattle.std.specs.Prelude.{ℕ, ◌+◌, ◌*◌, ◌/◌, ◌%◌, ◌^◌, ◌<◌, ◌≡◌, Bool, ◌&&◌, cond, List, [], ◌∷◌, eqb, leb, get_or, set, replicate, Option, Some, None, Result, MatchResult}
 use Rattle.words.specs.Numbers.{family_number, family_of, bit_of}
 use Rattle.words.specs.Says.{is_one}
 use Rattle.words.specs.declared.Family.{Family}
 use Rattle.words.specs.declared.Fields.{Fields}
 use Rattle.machine.specs.Execute.{Outcome, executed_says}
 use Rattle.runlist.specs.RunList.{Ended, run_says}
-use Rattle.runlist.specs.declared.RunAnswer.{RunAnswer}
-use Rattle.runlist.specs.declared.RunAnswer.TheVariants as answer
+use Rattle.numbers.specs.declared.Fault.{Fault}
+use Rattle.runlist.specs.declared.Ran.{Ran}
 use Rattle.spelling.specs.Print.{printed_says}
 use Rattle.spelling.specs.declared.Printed.{Printed}
 
@@ -148,15 +148,14 @@ ExecutedPut answer counts r counts' =
     (z za : List ℕ) → record { answer = halves r; z = z; za = za; counts = counts' } ≡ executed_into (executed_says answer z za) counts
 
 -- and whatever Z, ZA and the report are
-abbrev pub RanPut : RunAnswer → List ℕ → ℕ → List ℕ → Type 0
+abbrev pub RanPut : Result Ran Fault → List ℕ → ℕ → List ℕ → Type 0
 RanPut answer totals r totals' =
     (z za report : List ℕ)
     → record { answer = halves r; z = z; za = za; report = report; totals = totals' } ≡ ran_into (run_says answer z za report) totals
 
 -- the count of words and the place have 32 bits
-abbrev pub FitsHalf : RunAnswer → Type 0
-FitsHalf (answer.Ran n t) = n < 2 ^ 32
-FitsHalf (answer.Refused r p) = p < 2 ^ 32
+abbrev pub FitsHalf : Result Ran Fault → Type 0
+FitsHalf answer = MatchResult answer (λ r. r.words < 2 ^ 32) (λ f. f.place < 2 ^ 32)
 
 -- and so has the length of a text
 abbrev pub TextFits : Printed → Type 0

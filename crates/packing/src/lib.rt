@@ -11,7 +11,8 @@ ghost use Rattle.spelling.specs.Language.{read_says};
 ghost use Rattle.packing.specs.Packing.{halves, field_numbers, are_fields, fields_with, fields_from, decoded_into, ExecutedPut, FitsHalf, RanPut, TextFits};
 
 use machine::Counts;
-use runlist::RunAnswer;
+use numbers::Fault;
+use runlist::Ran;
 use settings::{Refusal, Settings};
 use spelling::{Printed, WordRead};
 use words::{Family, Fields};
@@ -174,14 +175,15 @@ pub fn executed(answer: Result<Counts, Refusal>, counts: &mut [u32; 3]) -> u64
     }
 }
 
-pub fn ran(answer: RunAnswer, totals: &mut [u32; 4]) -> u64
+pub fn ran(answer: Result<Ran, Fault>, totals: &mut [u32; 4]) -> u64
     requires { FitsHalf answer }
     ensures { RanPut answer totals.old result totals.new }
 {
     match answer {
-        RunAnswer::Refused { refusal, place } => refused(refusal, place as u32),
-        RunAnswer::Ran { words, tally } => {
-            *totals = [words as u32, tally.rises, tally.falls, tally.written];
+        Err(fault) => refused(fault.refusal, fault.place as u32),
+        Ok(ran) => {
+            let tally = ran.tally;
+            *totals = [ran.words as u32, tally.rises, tally.falls, tally.written];
             0
         }
     }

@@ -2,37 +2,42 @@
 use Prim.Native.Nat.{ℕ}
 use mathlib.Core.Path.{◌≡◌, refl, sym, ap, ap₂, ◌∙◌}
 use mathlib.Core.List.{List}
+use Rattle.std.specs.Prelude.{Result, Ok, Err}
+use Rattle.settings.specs.declared.Refusal.{Refusal}
 use Rattle.settings.proofs.Refusals.{refusal_known, not_0}
+use Rattle.tally.specs.declared.Tally.{Tally}
+use Rattle.numbers.specs.declared.Fault.{Fault}
 use Rattle.runlist.specs.RunList.{Ended, run_says, RunPromise}
-use Rattle.runlist.specs.declared.RunAnswer.{RunAnswer}
-use Rattle.runlist.specs.declared.RunAnswer.TheVariants.{Ran, Refused}
+use Rattle.runlist.specs.declared.Ran.{Ran}
 
 number : Ended → ℕ
 number o = o.number
 
 -- an answer is known by its number, its place, its count and its tally
-run_known : (r q : RunAnswer) (z za report z' za' report' : List ℕ) → run_says r z za report ≡ run_says q z' za' report' → r ≡ q
+run_known : (r q : Result Ran Fault) (z za report z' za' report' : List ℕ) → run_says r z za report ≡ run_says q z' za' report' → r ≡ q
 unfolding number
-run_known (Ran n t) (Ran m u) z za report z' za' report' e = ap₂ Ran (ap (λ (o : Ended). o.words) e) (ap (λ (o : Ended). o.tally) e)
-run_known (Ran n t) (Refused r p) z za report z' za' report' e = absurd (not_0 r (sym (ap number e)))
-run_known (Refused r p) (Ran n t) z za report z' za' report' e = absurd (not_0 r (ap number e))
-run_known (Refused r p) (Refused k q) z za report z' za' report' e = ap₂ Refused (refusal_known r k (ap number e)) (ap (λ (o : Ended). o.place) e)
+run_known (Ok a) (Ok b) z za report z' za' report' e =
+    ap₂ (λ (n : ℕ) (t : Tally). Ok (record { words = n; tally = t })) (ap (λ (o : Ended). o.words) e) (ap (λ (o : Ended). o.tally) e)
+run_known (Ok a) (Err f) z za report z' za' report' e = absurd (not_0 f.refusal (sym (ap number e)))
+run_known (Err f) (Ok a) z za report z' za' report' e = absurd (not_0 f.refusal (ap number e))
+run_known (Err f) (Err g) z za report z' za' report' e =
+    ap₂ (λ (r : Refusal) (p : ℕ). Err (record { refusal = r; place = p })) (refusal_known f.refusal g.refusal (ap number e)) (ap (λ (o : Ended). o.place) e)
 
 -- what an answer says of Z, ZA and the report is what the call left there
-says_z : (r : RunAnswer) (z za report : List ℕ) → (run_says r z za report).z ≡ z
-says_z (Ran n t) z za report = refl
-says_z (Refused r p) z za report = refl
+says_z : (r : Result Ran Fault) (z za report : List ℕ) → (run_says r z za report).z ≡ z
+says_z (Ok a) z za report = refl
+says_z (Err f) z za report = refl
 
-says-za : (r : RunAnswer) (z za report : List ℕ) → (run_says r z za report).za ≡ za
-says-za (Ran n t) z za report = refl
-says-za (Refused r p) z za report = refl
+says-za : (r : Result Ran Fault) (z za report : List ℕ) → (run_says r z za report).za ≡ za
+says-za (Ok a) z za report = refl
+says-za (Err f) z za report = refl
 
-says_report : (r : RunAnswer) (z za report : List ℕ) → (run_says r z za report).report ≡ report
-says_report (Ran n t) z za report = refl
-says_report (Refused r p) z za report = refl
+says_report : (r : Result Ran Fault) (z za report : List ℕ) → (run_says r z za report).report ≡ report
+says_report (Ok a) z za report = refl
+says_report (Err f) z za report = refl
 
 -- any two answers that run's promise allows are equal, and so are Z, ZA and the report at the end
-pub run_unique : (list z za report : List ℕ) (r q : RunAnswer) (z1 za1 report1 z2 za2 report2 : List ℕ)
+pub run_unique : (list z za report : List ℕ) (r q : Result Ran Fault) (z1 za1 report1 z2 za2 report2 : List ℕ)
     → RunPromise list z za report r z1 za1 report1 → RunPromise list z za report q z2 za2 report2
     → (r ≡ q) × (z1 ≡ z2) × (za1 ≡ za2) × (report1 ≡ report2)
 run_unique list z za report r q z1 za1 report1 z2 za2 report2 e g =

@@ -4,13 +4,12 @@ use native.Mathlib.Numerals.{add-one}
 use native.Mathlib.Omega.{arith}
 use mathlib.Core.Path.{◌≡◌, refl, sym, ap, ap₂, ◌∙◌, subst, subst⁻¹}
 use mathlib.Core.List.{List, [], ◌∷◌, ◌++◌, append_assoc, append-nil}
-use lib.ListN.{length, get_or, set, take, drop, replicate, length-append, take-append-drop}
+use lib.ListN.{length, get_or, set, take, drop, length-append, take-append-drop}
 use lib.Seq.{drop-cons, drop-length, length-take-le, take_at, drop_at, sets-eq}
 use Rattle.std.specs.Prelude.{Result, Ok, Err}
 use Rattle.laws.proofs.Lists.{drop_more}
 use Rattle.settings.specs.declared.Refusal.{Refusal}
 use Rattle.settings.specs.declared.Settings.{Settings}
-use Rattle.numbers.specs.Numbers.{numbers_at}
 use Rattle.tally.specs.Tally.{plus}
 use Rattle.tally.specs.declared.Tally.{Tally}
 use Rattle.machine.specs.Execute.{Outcome, execute_paper, executed_says}
@@ -19,11 +18,10 @@ use Rattle.machine.specs.declared.Counts.{Counts}
 use Rattle.machine.specs.declared.Reported.{Reported}
 use Rattle.machine.proofs.Answers.{says_z, says-za}
 use Rattle.machine.proofs.Small.{counts_small}
-use Rattle.runlist.specs.Plan.{lengths_of, Found, found, refused, Asked, ended_at, asking, plan_of}
-use Rattle.runlist.specs.Rooms.{goes_on}
+use Rattle.runlist.specs.Plan.{lengths_of, Found, refused, Asked, plan_of}
 use Rattle.runlist.specs.RunList.{no_tally, tallied, four, fours, carried_out, run_paper, run_says, RunPromise, with_four, Performed}
-use Rattle.runlist.specs.declared.RunAnswer.{RunAnswer}
-use Rattle.runlist.specs.declared.RunAnswer.TheVariants as answer
+use Rattle.runlist.specs.declared.Ran.{Ran}
+use Rattle.numbers.specs.declared.Fault.{Fault}
 use Rattle.runlist.proofs.Tallies.{Within, none_within, one_more}
 
 -- i words are done: what is left of the run makes up the whole of it
@@ -166,31 +164,14 @@ finished s ws z₀ za₀ report₀ z za report t i e g =
       tally_is = sym (g.tally_left ∙ ap (λ (x : Run). tallied t x.reports) over);
     }
 
--- ---- the words of a list
-
-module _ (s : Settings) (list : List ℕ) (at from : ℕ) (room z za report : List ℕ) where
-  abbrev asked : Found Asked
-  asked = goes_on s list at (length z) from (length room)
-
-  pub not_run : (r : Refusal) (p : ℕ) → refused r p ≡ ended_at list (numbers_at list from (length room))
-      → run_says (answer.Refused r p) z za report ≡ carried_out asked z za report
-  not_run r p e = ap (λ (f : Found (List ℕ)). carried_out (asking s (take (length z) (drop at list)) f) z za report) e
-
-  pub is_run : (ws z₀ za₀ : List ℕ) (t : Tally) (z' za' report' : List ℕ) → found ws ≡ ended_at list (numbers_at list from (length room))
-      → z₀ ≡ take (length z) (drop at list) → za₀ ≡ replicate (length za) 0
-      → Performed (run_of (execute_paper s) ws z₀ za₀) (length ws) report t z' za' report' → run_says (answer.Ran (length ws) t) z' za' report' ≡ carried_out asked z za report
-  is_run ws z₀ za₀ t z' za' report' e b a d =
-      rw (d.z_is, d.za_is, d.report_is, d.tally_is, a, b)
-      (ap (λ (f : Found (List ℕ)). carried_out (asking s (take (length z) (drop at list)) f) z za report) e)
-
 -- ---- the whole list
 
 module _ (list z za report : List ℕ) where
-  pub refused_run : (r : Refusal) (p : ℕ) → refused r p ≡ plan_of list (lengths_of z za report) → RunPromise list z za report (answer.Refused r p) z za report
+  pub refused_run : (f : Fault) → refused f.refusal f.place ≡ plan_of list (lengths_of z za report) → RunPromise list z za report (Err f) z za report
   unfolding run_paper
-  refused_run r p e = ap (λ (f : Found Asked). carried_out f z za report) e
+  refused_run f e = ap (λ (f : Found Asked). carried_out f z za report) e
 
-  pub run_on : (f : Found Asked) (a : RunAnswer) (z' za' report' : List ℕ) → f ≡ plan_of list (lengths_of z za report)
+  pub run_on : (f : Found Asked) (a : Result Ran Fault) (z' za' report' : List ℕ) → f ≡ plan_of list (lengths_of z za report)
       → run_says a z' za' report' ≡ carried_out f z za report → RunPromise list z za report a z' za' report'
   unfolding run_paper
   run_on f a z' za' report' e d = d ∙ ap (λ (x : Found Asked). carried_out x z za report) e

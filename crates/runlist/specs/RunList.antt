@@ -1,13 +1,13 @@
 -- Document 01, "The run list": what running a list answers, and what it leaves in Z, ZA and the report.
-use Rattle.std.specs.Prelude.{ℕ, ◌+◌, ◌*◌, ◌≡◌, List, [], ◌∷◌, ◌++◌, length, take, drop, replicate}
+use Rattle.std.specs.Prelude.{ℕ, ◌+◌, ◌*◌, ◌≡◌, List, [], ◌∷◌, ◌++◌, length, take, drop, replicate, Result, Ok, Err}
 use Rattle.settings.specs.Refused.{refusal_number}
 use Rattle.tally.specs.Tally.{plus}
 use Rattle.tally.specs.declared.Tally.{Tally}
 use Rattle.machine.specs.Execute.{execute_paper}
 use Rattle.machine.specs.Run.{Report, Run, run_of}
 use Rattle.runlist.specs.Plan.{lengths_of, Found, found, refused, Asked, plan_of}
-use Rattle.runlist.specs.declared.RunAnswer.{RunAnswer}
-use Rattle.runlist.specs.declared.RunAnswer.TheVariants as answer
+use Rattle.runlist.specs.declared.Ran.{Ran}
+use Rattle.numbers.specs.declared.Fault.{Fault}
 
 -- the refusal's number or 0, and its place; the count of words and their tally; Z, ZA and the report at the end
 pub record Ended : Type 0 where
@@ -63,12 +63,12 @@ unfoldable pub run_paper : List ℕ → List ℕ → List ℕ → List ℕ → E
 run_paper list z za report = carried_out (plan_of list (lengths_of z za report)) z za report
 
 -- what an answer says, with Z, ZA and the report as the call left them
-abbrev pub run_says : RunAnswer → List ℕ → List ℕ → List ℕ → Ended
-run_says (answer.Ran n t) z za report = record { number = 0; place = 0; words = n; tally = t; z = z; za = za; report = report }
-run_says (answer.Refused r p) z za report = refused_at (refusal_number r) p z za report
+abbrev pub run_says : Result Ran Fault → List ℕ → List ℕ → List ℕ → Ended
+run_says (Ok r) z za report = record { number = 0; place = 0; words = r.words; tally = r.tally; z = z; za = za; report = report }
+run_says (Err f) z za report = refused_at (refusal_number f.refusal) f.place z za report
 
 -- what `run` promises of its answer, and of Z, ZA and the report at the call's end
-abbrev pub RunPromise : List ℕ → List ℕ → List ℕ → List ℕ → RunAnswer → List ℕ → List ℕ → List ℕ → Type 0
+abbrev pub RunPromise : List ℕ → List ℕ → List ℕ → List ℕ → Result Ran Fault → List ℕ → List ℕ → List ℕ → Type 0
 RunPromise list z za report r z' za' report' = run_says r z' za' report' ≡ run_paper list z za report
 
 -- ---- only contracts use these

@@ -1,6 +1,6 @@
 #![tactic(auto)]
 
-ghost use Rattle.std.specs.Prelude.{◌≡◌, ◌+◌, ◌*◌, ◌≤◌, length, take, drop, replicate};
+ghost use Rattle.std.specs.Prelude.{◌≡◌, ◌+◌, ◌*◌, ◌≤◌, length};
 ghost use Rattle.machine.specs.Execute.{execute_paper};
 ghost use Rattle.machine.specs.Run.{four_of, run_of};
 ghost use Rattle.machine.specs.Loop.{Ready};
@@ -10,7 +10,7 @@ ghost use Rattle.runlist.specs.Rooms.{words_say, goes_on, CountRead, RestRead, F
 ghost use Rattle.runlist.specs.RunList.{carried_out, run_says, with_four, RunPromise, Performed};
 
 use machine::Reported;
-use numbers::{Read, Row};
+use numbers::{Fault, Number};
 use settings::{Features, Modes, Refusal, Settings};
 use tally::Tally;
 
@@ -21,34 +21,30 @@ pub const MOST_WORDS: usize = 1024;
 const FEW_WORDS: usize = 64;
 
 // VL, features, modes, W8 to W11.
-pub const HEAD: usize = 7;
+const HEAD: usize = 7;
 
-// What became of a list: how many words ran, and their tally; or why none did, and the place of the fault.
+// A list that ran: how many words it has, and their tally.
 #[derive(Clone, Copy)]
-pub enum RunAnswer {
-    Ran { words: usize, tally: Tally },
-    Refused { refusal: Refusal, place: usize },
+pub struct Ran {
+    pub words: usize,
+    pub tally: Tally,
 }
 
-// What stands before the words of a list: the place of the Z bytes, that of the words, and how many there are.
+// How much is lent for a run: the bytes of Z and ZA, and the numbers of the report.
 #[derive(Clone, Copy)]
-pub enum Front {
-    Words {
-        at: usize,
-        from: usize,
-        words: usize,
-    },
-    Refused {
-        refusal: Refusal,
-        place: usize,
-    },
+pub struct Lengths {
+    pub z: usize,
+    pub za: usize,
+    pub report: usize,
 }
 
-// The words of a list.
+// What stands before the words of a list: the settings, the place of the Z bytes, that of the words, and how many there are.
 #[derive(Clone, Copy)]
-pub enum Words {
-    Read,
-    Refused { refusal: Refusal, place: usize },
+pub struct Front {
+    pub settings: Settings,
+    pub at: usize,
+    pub from: usize,
+    pub words: usize,
 }
 
 // The settings of the seven numbers in front.
@@ -65,129 +61,80 @@ pub fn settings_of(head: &[u32]) -> Settings
 }
 
 // The words from `at` on, as many as `words` has room for, after which the list ends.
-pub fn read_to_end(list: &[u8], at: usize, words: &mut [u32]) -> Words
+pub fn read_to_end(list: &[u8], at: usize, words: &mut [u32]) -> Result<(), Fault>
     ensures words_after { words_say result words.new ≡ ended_at list.now (numbers_at list.now at (length words.old)) }
     ensures words_after_2 { words.new ≡ filled (numbers_at list.now at (length words.old)) words.old }
 {
-    match numbers::read_numbers(list, at, words) {
-        Row::Fault { refusal, place } => Words::Refused {
-            refusal: refusal,
-            place: place,
-        },
-        Row::Next { next } => {
-            if next != list.len() {
-                return Words::Refused {
-                    refusal: Refusal::ExtraBytes,
-                    place: next,
-                };
-            }
-            Words::Read
-        }
+    let next = numbers::read_numbers(list, at, words)?;
+    if next != list.len() {
+        return Err(Fault {
+            refusal: Refusal::ExtraBytes,
+            place: next,
+        });
     }
+    Ok(())
 }
 
-// The count of the words, behind the z bytes from `at` on. `report` is how many numbers the report has.
-fn read_count(list: &[u8], report: usize, at: usize, z: usize) -> Front
-    requires { at + z ≤ length list.now }
-    ensures { CountRead list.now report at z result }
+// The count of the words, at `at`. `report` is how many numbers the report has.
+fn read_count(list: &[u8], report: usize, at: usize) -> Result<Number, Fault>
+    ensures { CountRead list.now report at result }
 {
-    match numbers::read_number(list, at + z) {
-        Read::Fault { refusal, place } => Front::Refused {
-            refusal: refusal,
-            place: place,
-        },
-        Read::Number { value, next } => {
-            let n = value as usize;
-            if n > MOST_WORDS {
-                return Front::Refused {
-                    refusal: Refusal::TooManyWords,
-                    place: at + z,
-                };
-            }
-            if report < 4 * n {
-                return Front::Refused {
-                    refusal: Refusal::BadLength,
-                    place: 0,
-                };
-            }
-            Front::Words {
-                at: at,
-                from: next,
-                words: n,
-            }
-        }
+    let count = numbers::read_number(list, at)?;
+    let n = count.value as usize;
+    if n > MOST_WORDS {
+        return Err(Fault {
+            refusal: Refusal::TooManyWords,
+            place: at,
+        });
     }
+    if report < 4 * n {
+        return Err(Fault {
+            refusal: Refusal::BadLength,
+            place: 0,
+        });
+    }
+    Ok(count)
 }
 
 // What follows the seven numbers: the settings and the lengths are tested, then come the Z bytes, from `at` on, and the count.
-fn read_rest(
-    list: &[u8],
-    z: usize,
-    za: usize,
-    report: usize,
-    settings: Settings,
-    at: usize,
-) -> Front
+fn read_rest(list: &[u8], lengths: Lengths, settings: Settings, at: usize) -> Result<Front, Fault>
     requires { at ≤ length list.now }
-    ensures { RestRead list.now (record { z = z; za = za; report = report }) settings at result }
+    ensures { RestRead list.now lengths settings at result }
 {
     if !settings.valid() {
-        return Front::Refused {
+        return Err(Fault {
             refusal: Refusal::BadSettings,
             place: 0,
-        };
+        });
     }
-    if !machine::right_lengths(settings, z, za) {
-        return Front::Refused {
+    if !machine::right_lengths(settings, lengths.z, lengths.za) {
+        return Err(Fault {
             refusal: Refusal::BadLength,
             place: 0,
-        };
+        });
     }
-    if list.len() - at < z {
-        return Front::Refused {
+    if list.len() - at < lengths.z {
+        return Err(Fault {
             refusal: Refusal::ListEnds,
             place: at,
-        };
+        });
     }
-    read_count(list, report, at, z)
+    let count = read_count(list, lengths.report, at + lengths.z)?;
+    Ok(Front {
+        settings,
+        at,
+        from: count.next,
+        words: count.value as usize,
+    })
 }
 
-// Reads a list up to its words; z, za and report are the lengths of what is lent. It writes nothing but `head`, the room for the
-// seven numbers in front.
-pub fn read_front(list: &[u8], z: usize, za: usize, report: usize, head: &mut [u32]) -> Front
-    requires { length head.old ≡ 7 }
-    ensures front_read { FrontRead list.now (record { z = z; za = za; report = report }) head.new result }
-    ensures head_after { head.new ≡ filled (numbers_at list.now 0 7) head.old }
+// Reads a list up to its words. It writes nothing that is lent.
+pub fn read_front(list: &[u8], lengths: Lengths) -> Result<Front, Fault>
+    ensures { FrontRead list.now lengths result }
 {
-    match reader::read_seven(list, 0, head) {
-        Row::Fault { refusal, place } => Front::Refused {
-            refusal: refusal,
-            place: place,
-        },
-        Row::Next { next } => read_rest(list, z, za, report, settings_of(head), next),
-    }
-}
-
-// `to` takes the bytes of `from` from `at` on.
-fn copy(from: &[u8], at: usize, to: &mut [u8])
-    requires { at + length to.old ≤ length from.now }
-    ensures { to.new ≡ take (length to.old) (drop at from.now) }
-{
-    let mut i = 0;
-    while i < to.len() {
-        to[i] = from[at + i];
-        i += 1;
-    }
-}
-
-fn clear(bytes: &mut [u8])
-    ensures { bytes.new ≡ replicate (length bytes.old) 0 }
-{
-    let mut i = 0;
-    while i < bytes.len() {
-        bytes[i] = 0;
-        i += 1;
-    }
+    let mut head = [0u32; HEAD];
+    let at = numbers::read_numbers(list, 0, &mut head)?;
+    read_rest(list, lengths, settings_of(&head), at)
 }
 
 // The numbers of word i.
@@ -229,61 +176,45 @@ fn perform(
     tally
 }
 
-// Reads the words from `from` on, as many as `words` has room for, and runs them from the Z bytes at `at` on.
+// Reads the words, as many as `words` has room for, and runs them from the list's Z bytes on.
 fn run_words(
-    settings: Settings,
     list: &[u8],
-    at: usize,
-    from: usize,
+    front: Front,
     words: &mut [u32],
     z: &mut [u8],
     za: &mut [u8],
     report: &mut [u32],
-) -> RunAnswer
-    requires ready { Ready settings z.old za.old × (at + length z.old ≤ length list.now) }
+) -> Result<Ran, Fault>
+    requires ready { Ready front.settings z.old za.old × (front.at + length z.old ≤ length list.now) }
     requires words_len_bound { (length words.old ≤ most_words) × (4 * length words.old ≤ length report.old) }
     ensures { run_says result z.new za.new report.new
-        ≡ carried_out (goes_on settings list.now at (length z.old) from (length words.old)) z.old za.old report.old }
+        ≡ carried_out (goes_on front.settings list.now front.at (length z.old) front.from (length words.old)) z.old za.old report.old }
 {
-    match read_to_end(list, from, words) {
-        Words::Refused { refusal, place } => RunAnswer::Refused {
-            refusal: refusal,
-            place: place,
-        },
-        Words::Read => {
-            copy(list, at, z);
-            clear(za);
-            let tally = perform(settings, words, z, za, report);
-            RunAnswer::Ran {
-                words: words.len(),
-                tally: tally,
-            }
-        }
-    }
+    read_to_end(list, front.from, words)?;
+    let end = front.at + z.len();
+    z.copy_from_slice(&list[front.at..end]);
+    za.fill(0);
+    let tally = perform(front.settings, words, z, za, report);
+    Ok(Ran {
+        words: words.len(),
+        tally,
+    })
 }
 
 // Runs a list on Z and ZA that the caller lends, and reports four numbers for each word. A refused list changes nothing.
-pub fn run(list: &[u8], z: &mut [u8], za: &mut [u8], report: &mut [u32]) -> RunAnswer
+pub fn run(list: &[u8], z: &mut [u8], za: &mut [u8], report: &mut [u32]) -> Result<Ran, Fault>
     ensures { RunPromise list.now z.old za.old report.old result z.new za.new report.new }
 {
-    let mut head = [0u32; HEAD];
-    match read_front(list, z.len(), za.len(), report.len(), &mut head) {
-        Front::Refused { refusal, place } => RunAnswer::Refused {
-            refusal: refusal,
-            place: place,
-        },
-        Front::Words {
-            at,
-            from,
-            words: count,
-        } => {
-            let settings = settings_of(&head);
-            if count <= FEW_WORDS {
-                let mut few = [0u32; FEW_WORDS];
-                return run_words(settings, list, at, from, &mut few[..count], z, za, report);
-            }
-            let mut words = [0u32; MOST_WORDS];
-            run_words(settings, list, at, from, &mut words[..count], z, za, report)
-        }
+    let lengths = Lengths {
+        z: z.len(),
+        za: za.len(),
+        report: report.len(),
+    };
+    let front = read_front(list, lengths)?;
+    if front.words <= FEW_WORDS {
+        let mut few = [0u32; FEW_WORDS];
+        return run_words(list, front, &mut few[..front.words], z, za, report);
     }
+    let mut words = [0u32; MOST_WORDS];
+    run_words(list, front, &mut words[..front.words], z, za, report)
 }

@@ -1,31 +1,28 @@
--- `runlist::run` meets its contract. Assumes nothing.
-use Prim.Native.Nat.{ℕ, ◌*◌, ◌≤◌}
-use native.Mathlib.Omega.{arith}
-use mathlib.Core.Path.{ap₂, ◌∙◌}
-use mathlib.Core.List.{List}
-use lib.ListN.{length, take}
+use Rattle.std.proofs.Common.{◌≡◌, ℕ, ◌≤◌, List, length, take, replicate, Ok, Err, ap, ◌∙◌, rules}
 use lib.Seq.{length-take-le}
-use Rattle.settings.specs.declared.Settings.{Settings}
-use Rattle.runlist.specs.Plan.{most_words}
-use Rattle.runlist.specs.Rooms.{goes_on}
+use Rattle.runlist.specs.Plan.{plan_of}
+use Rattle.runlist.specs.Rooms.{goes_on, FrontRead}
+use Rattle.runlist.specs.declared.Front.{Front}
+use Rattle.runlist.specs.declared.Lengths.{Lengths}
 use Rattle.runlist.proofs.Runs.{refused_run, run_on}
 use Rattle.runlist.proofs.run.Goals as goal
 
--- the first n places of a room are as many
-fit : (n report : ℕ) (room : List ℕ) → n ≤ length room → n ≤ most_words → 4 * n ≤ report → (length (take n room) ≤ most_words) × (4 * length (take n room) ≤ report)
-fit n report room h m k = let long = length-take-le n room h in (omega arith, omega arith)
+pub returns-in_err-front : goal.returns-in_err-front
+returns-in_err-front c =
+    let told : c.from_residual.result ≡ Err c.in_err-front.field-0.0 = search rules in
+    rw told (refused_run c.args.list.now c.args.z.now c.args.za.now c.args.report.now _ c.in_err-front.ensures.says)
 
-pub returns-then-count-le-FEW_WORDS : goal.returns-then-count-le-FEW_WORDS
-returns-then-count-le-FEW_WORDS c =
-    let known = c.in-Words.ensures.front_read in
-    let planned = ap₂ (λ (s : Settings) (m : ℕ). goes_on s c.args.list.now c.in-Words.at (length c.args.z.now) c.in-Words.from m) c.settings_of-settings.ensures (length-take-le _ _ c.if-count-le-FEW_WORDS.true) ∙ known.says in
-    run_on c.args.list.now c.args.z.now c.args.za.now c.args.report.now _ c.run_words.result c.run_words.new.z c.run_words.new.za c.run_words.new.report planned c.run_words.ensures
+-- the words that the front of a room is for are as many
+planned : (list : List ℕ) (lent : Lengths) (f : Front) (room : List ℕ) → f.words ≤ length room → FrontRead list lent (Ok f)
+    → goes_on f.settings list f.at lent.z f.from (length (take f.words room)) ≡ plan_of list lent
+planned list lent f room h d = ap (goes_on f.settings list f.at lent.z f.from) (length-take-le f.words room h) ∙ d.says
 
-pub returns-in-Refused : goal.returns-in-Refused
-returns-in-Refused c = refused_run c.args.list.now c.args.z.now c.args.za.now c.args.report.now _ _ c.in-Refused.ensures.front_read.says
+pub returns-then-front-le-FEW_WORDS : goal.returns-then-front-le-FEW_WORDS
+returns-then-front-le-FEW_WORDS c =
+    run_on c.args.list.now c.args.z.now c.args.za.now c.args.report.now _ c.run_words.result c.run_words.new.z c.run_words.new.za c.run_words.new.report
+    (planned _ _ _ (replicate 64 0) c.if-front-le-FEW_WORDS.true c.in_ok-front.ensures) c.run_words.ensures
 
-pub returns-else-count-le-FEW_WORDS : goal.returns-else-count-le-FEW_WORDS
-returns-else-count-le-FEW_WORDS c =
-    let known = c.in-Words.ensures.front_read in
-    let planned = ap₂ (λ (s : Settings) (m : ℕ). goes_on s c.args.list.now c.in-Words.at (length c.args.z.now) c.in-Words.from m) c.settings_of-settings.ensures (length-take-le _ _ known.fits.1) ∙ known.says in
-    run_on c.args.list.now c.args.z.now c.args.za.now c.args.report.now _ c.run_words-in-Words.result c.run_words-in-Words.new.z c.run_words-in-Words.new.za c.run_words-in-Words.new.report planned c.run_words-in-Words.ensures
+pub returns : goal.returns
+returns c =
+    run_on c.args.list.now c.args.z.now c.args.za.now c.args.report.now _ c.run_words-2.result c.run_words-2.new.z c.run_words-2.new.za c.run_words-2.new.report
+    (planned _ _ _ (replicate 1024 0) c.in_ok-front.ensures.fits.1 c.in_ok-front.ensures) c.run_words-2.ensures

@@ -1,2 +1,0 @@
-pub mod Moves
-pub mod Examples
