@@ -1,7 +1,6 @@
 // The lines that the list program prints. Each is a text whose type has room for the longest, so that only `push_ran`, which adds them to one text,
 // asks for room.
-// Kept: no `write!` and no Display. `push_ran` cannot fail, and no clause says when `write!` answers Ok: of `write!(out, "words {n}\n")`, in a text with
-// room for it, the goal `IsOk c.write.result` stayed open.
+// Kept: no `write!`: `push_ran` cannot fail, and of `write!(out, "words {n}\n")` where room is left the goal `IsOk c.write.result` stayed open.
 #![tactic(auto)]
 
 ghost use Rattle.std.specs.Prelude.{◌≡◌, ◌+◌, ◌*◌, ◌≤◌, ◌<◌, [], ◌++◌, length};

@@ -8,6 +8,7 @@ use arrayvec::ArrayString;
 use itoa::Buffer;
 
 // The byte of a digit.
+// Kept: `char::from_digit` answers an Option, and a letter in lower case.
 fn glyph(digit: u64) -> u8
     requires { digit < 16 }
     ensures { (result ≡ glyph_of digit) × (result < 128) }

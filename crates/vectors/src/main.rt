@@ -412,8 +412,7 @@ fn check_list(rt: &impl Print, list: &[u8]) -> io::Result<()> {
 // Larger than the file. A longer file would be cut short, and the count of words would show it.
 const INPUT: usize = 524288;
 
-// Kept: with `[0; INPUT]` in `main` the checker ran out of stack. Of an array that it sees made it counts the elements, and of one that a call
-// returns it knows the length.
+// Kept: with `[0; INPUT]` in `main` the checker ran out of stack: of an array that it sees made it counts the elements.
 fn input_room() -> [u8; INPUT] {
     [0u8; INPUT]
 }
