@@ -1,13 +1,14 @@
 // How the programs read: as much of an input as a room holds.
 #![tactic(auto)]
 
-ghost use Rattle.std.specs.Prelude.{◌≡◌, ◌≤◌, length, take};
+ghost use Rattle.std.specs.Prelude.{◌≤◌, length};
 
 use std::io;
 
-// Reads until the room is full, the input ends or a read fails, and tells how many bytes it put at the room's start.
-pub fn read_full(from: &mut impl io::Read, room: &mut [u8]) -> usize
-    ensures { (result ≤ length room.new) × (result ≡ length (take result room.new)) }
+// Reads until the room is full, the input ends or a read fails, and hands out what it read.
+// Kept: a `while`, since only `read` says how far a turn comes.
+pub fn read_full<'a>(from: &mut impl io::Read, room: &'a mut [u8]) -> &'a [u8]
+    ensures { length result.now ≤ length room.old }
 {
     let mut done = 0;
     while done < room.len() {
@@ -16,5 +17,5 @@ pub fn read_full(from: &mut impl io::Read, room: &mut [u8]) -> usize
             Ok(got) => done += got,
         }
     }
-    done
+    &room[..done]
 }

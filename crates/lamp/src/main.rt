@@ -1,10 +1,10 @@
 // The list program: reads a list from standard input to its end, runs it, and prints a line for each word.
 #![tactic(auto)]
 
-ghost use Rattle.std.specs.Prelude.{◌≡◌, ◌≤◌, ◌<◌, [], length, take};
+ghost use Rattle.std.specs.Prelude.{◌≡◌, ◌≤◌, ◌<◌, [], length};
 ghost use Rattle.runlist.specs.Plan.{most_words};
 ghost use Rattle.demands.specs.Lists.{longest};
-ghost use Rattle.lamp.specs.Lamp.{lines_of, register_of, register_bytes, printed, WordsAgain};
+ghost use Rattle.lamp.specs.Lamp.{lines_of, register_bytes, printed, WordsAgain};
 
 use arrayvec::ArrayString;
 use runlist::Lengths;
@@ -99,6 +99,7 @@ fn put_printed(list: &[u8], out: &mut ArrayString<TEXT>)
 }
 
 // Room for more than the longest list that is accepted: of a longer one these bytes decide how it is refused (`enough_read`).
+// Kept: that there is room for more is its contract.
 fn input_room() -> [u8; INPUT]
     ensures { (8192 ≡ length result) × (longest < length result) }
 {
@@ -122,12 +123,12 @@ fn drain_input(from: &mut impl io::Read) {
 
 fn main(rt: HostRuntime) -> io::Result<()> {
     let mut stdin = rt.stdin();
-    let mut input = input_room();
-    let got = input::read_full(&mut stdin, &mut input);
-    if got == INPUT {
+    let mut room = input_room();
+    let list = input::read_full(&mut stdin, &mut room);
+    if list.len() == INPUT {
         drain_input(&mut stdin);
     }
     let mut out = ArrayString::new();
-    put_printed(&input[..got], &mut out);
+    put_printed(list, &mut out);
     rt.write_all(out.as_bytes())
 }

@@ -3,7 +3,7 @@
 // Kept: no `write!`: `push_ran` cannot fail, and of `write!(out, "words {n}\n")` where room is left the goal `IsOk c.write.result` stayed open.
 #![tactic(auto)]
 
-ghost use Rattle.std.specs.Prelude.{◌≡◌, ◌+◌, ◌*◌, ◌≤◌, ◌<◌, [], ◌++◌, length};
+ghost use Rattle.std.specs.Prelude.{◌≡◌, ◌+◌, ◌*◌, ◌≤◌, [], ◌++◌, length};
 ghost use Rattle.arrayvec.specs.ArrayString.{array_string_len};
 ghost use Rattle.lines.specs.Lines.{refused_line, counts_after, outcome, word_line, word_lines, words_line, total_line, ran_lines, ToggledFits};
 

@@ -2,7 +2,7 @@
 // LLVM's answers are on standard input, made by tests/llvm/make_vectors.py, whose header has the line's columns.
 #![tactic(auto)]
 
-ghost use Rattle.std.specs.Prelude.{◌≡◌, ◌<◌, ◌≤◌, length, take};
+ghost use Rattle.std.specs.Prelude.{◌≡◌, ◌<◌, ◌≤◌, length};
 
 use settings::{Features, Modes, Refusal, Settings};
 use spelling::{Printed, WordRead};
@@ -418,7 +418,6 @@ fn input_room() -> [u8; INPUT] {
 }
 
 fn main(rt: HostRuntime) -> io::Result<()> {
-    let mut input = input_room();
-    let got = input::read_full(&mut rt.stdin(), &mut input);
-    check_list(&rt, &input[..got])
+    let mut room = input_room();
+    check_list(&rt, input::read_full(&mut rt.stdin(), &mut room))
 }
