@@ -8,7 +8,7 @@ use Rattle.settings.specs.declared.Settings.{Settings}
 use Rattle.words.specs.declared.Fields.{Fields}
 use Rattle.words.proofs.Answers as words
 use Rattle.encoding.proofs.Theorems as encoding
-use Rattle.machine.specs.declared.Counts.{Counts}
+use Rattle.tally.specs.declared.Counts.{Counts}
 use Rattle.machine.proofs.Answers as machine
 use Rattle.rate.proofs.Rate as rate
 use Rattle.numbers.specs.declared.Fault.{Fault}

@@ -1,7 +1,7 @@
 -- What the eight public calls promise, side by side: what each answers, and what it leaves in what was lent to it. What a promise cites stands
 -- in the crates below: layouts and fields in `words`, the step in `machine`, the list in `runlist`, the texts in `spelling`.
 use Rattle.std.specs.Prelude.{ℕ, ◌≡◌, List, Result}
-use Rattle.machine.specs.declared.Counts.{Counts}
+use Rattle.tally.specs.declared.Counts.{Counts}
 use Rattle.settings.specs.Refused.{word_says}
 use Rattle.settings.specs.declared.Refusal.{Refusal}
 use Rattle.settings.specs.declared.Settings.{Settings}

@@ -3,12 +3,11 @@
 
 ghost use Rattle.callinglamp.specs.Promises.{DecodePromise, EncodePromise, PartnerPromise, ExecutePromise, PercentPromise, RunPromise, PrintPromise, ReadPromise};
 
-pub use machine::Counts;
 pub use numbers::Fault;
 pub use runlist::Ran;
 pub use settings::{Features, Modes, Refusal, Settings};
 pub use spelling::{Printed, WordRead, longest_text};
-pub use tally::Tally;
+pub use tally::Counts;
 pub use words::{Family, Fields};
 
 // The fields of a word. Refusals 1, 3.
@@ -33,12 +32,7 @@ pub fn partner(settings: Settings, word: u32) -> Result<u32, Refusal>
 }
 
 // Executes one word on Z and ZA. Refusals 1, 2, 3, 4, which leave both as they are.
-pub fn execute(
-    settings: Settings,
-    word: u32,
-    z: &mut [u8],
-    za: &mut [u8],
-) -> Result<Counts, Refusal>
+pub fn execute(settings: Settings, word: u32, z: &mut [u8], za: &mut [u8]) -> Result<Counts, Refusal>
     ensures { ExecutePromise settings word z.old za.old result z.new za.new }
 {
     machine::execute(settings, word, z, za)

@@ -2,7 +2,7 @@
 -- proves each record, so that no statement can be dropped or lost in silence. That a call ends, for every input, is what the check says of a
 -- function without a `requires`: no public call has one.
 use Rattle.std.specs.Prelude.{ℕ, ◌^◌, ◌<◌, ◌≡◌, ◌↔◌, true, List, Result}
-use Rattle.machine.specs.declared.Counts.{Counts}
+use Rattle.tally.specs.declared.Counts.{Counts}
 use Rattle.settings.specs.Valid.{valid_settings}
 use Rattle.settings.specs.declared.Refusal.{Refusal}
 use Rattle.settings.specs.declared.Settings.{Settings}

@@ -7,7 +7,7 @@ use lib.ListN.{length, replicate}
 use Rattle.settings.specs.declared.Settings.{Settings}
 use Rattle.bits.proofs.Bits as bits
 use Rattle.tally.specs.Tally.{plus}
-use Rattle.tally.specs.declared.Tally.{Tally}
+use Rattle.tally.specs.declared.Counts.{Counts}
 use Rattle.machine.specs.Execute.{Outcome, execute_paper}
 use Rattle.machine.specs.Run.{run_of}
 use Rattle.runlist.specs.Plan.{Found, Asked}
@@ -44,7 +44,7 @@ module _ (s : Settings) (w : ℕ) (z za : List ℕ) where
 -- ---- a run
 
 -- from any tally on: what it had stands on both sides
-from_tally : (s : Settings) (ws z za : List ℕ) (t : Tally)
+from_tally : (s : Settings) (ws z za : List ℕ) (t : Counts)
     → ones (run_of (execute_paper s) ws z za).z (run_of (execute_paper s) ws z za).za + (tallied t (run_of (execute_paper s) ws z za).reports).falls + t.rises
     ≡ ones z za + (tallied t (run_of (execute_paper s) ws z za).reports).rises + t.falls
 unfolding run_of tallied

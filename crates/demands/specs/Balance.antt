@@ -3,7 +3,7 @@
 use Rattle.std.specs.Prelude.{ℕ, ◌+◌, ◌*◌, ◌≤◌, ◌≡◌, List, length, replicate}
 use Rattle.settings.specs.declared.Settings.{Settings}
 use Rattle.bits.specs.Bits.{ones_of, zeros_of}
-use Rattle.tally.specs.declared.Tally.{Tally}
+use Rattle.tally.specs.declared.Counts.{Counts}
 use Rattle.machine.specs.Execute.{Outcome, execute_paper}
 use Rattle.machine.specs.Run.{Run, run_of}
 use Rattle.runlist.specs.Plan.{lengths_of, found, Asked, plan_of}
@@ -35,7 +35,7 @@ FallsFromOnes z za o = o.falls ≤ ones z za
 -- ---- "Over any run", refused words included
 
 -- what its reports add up to
-abbrev pub tally_of : Run → Tally
+abbrev pub tally_of : Run → Counts
 tally_of r = tallied no_tally r.reports
 
 abbrev pub RunBalances : Type 0

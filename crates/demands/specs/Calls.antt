@@ -1,7 +1,7 @@
 -- Demand 3, as a caller of `execute` and `partner` sees it. The calls are known by their promises alone. proofs/Calls.antt proves the statement.
 use Rattle.std.specs.Prelude.{ℕ, ◌≡◌, List, [], ◌∷◌, map, reverse, Result, Ok, Err}
 use Rattle.laws.specs.Lists.{Each}
-use Rattle.machine.specs.declared.Counts.{Counts}
+use Rattle.tally.specs.declared.Counts.{Counts}
 use Rattle.settings.specs.declared.Refusal.{Refusal}
 use Rattle.settings.specs.declared.Settings.{Settings}
 use Rattle.words.specs.Partner.{PartnerPromise}

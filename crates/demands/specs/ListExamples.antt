@@ -10,7 +10,7 @@ use Rattle.elements.specs.Files.{vector_at, renewed}
 use Rattle.lanes.specs.Lane.{s_int, int_of, low, product, accumulate, lane_step, step}
 use Rattle.bits.specs.Bits.{over_bits, over_bytes}
 use Rattle.numbers.specs.Numbers.{numeral, number_at, numbers_at}
-use Rattle.tally.specs.declared.Tally.{Tally}
+use Rattle.tally.specs.declared.Counts.{Counts}
 use Rattle.lanes.specs.Element.{new_element, new_bytes}
 use Rattle.machine.specs.Step.{stride, selected, first_vector, some_below, writes_vector, new_vector, za_after}
 use Rattle.machine.specs.Execute.{stepped, execute_paper}
@@ -52,7 +52,7 @@ abbrev lent_report : ℕ → List ℕ
 lent_report n = replicate n 77
 
 -- after a run that leaves ZA at zero
-abbrev ran_with : ℕ → Tally → List ℕ → Ended
+abbrev ran_with : ℕ → Counts → List ℕ → Ended
 ran_with n tally report = record { number = 0; place = 0; words = n; tally = tally; z = replicate 512 0x01; za = replicate 256 0x00; report = report }
 
 -- the paper's list, with a report of n numbers

@@ -8,7 +8,7 @@ use Rattle.settings.specs.declared.Settings.{Settings}
 use Rattle.settings.proofs.Refusals.{refusal_known, not_0}
 use Rattle.machine.specs.Execute.{Outcome, executed_says, execute_paper}
 use Rattle.machine.specs.Run.{Report, report_of}
-use Rattle.machine.specs.declared.Counts.{Counts}
+use Rattle.tally.specs.declared.Counts.{Counts}
 
 number : Report → ℕ
 number r = r.0

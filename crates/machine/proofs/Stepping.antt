@@ -81,7 +81,7 @@ pub written_za : (s : Settings) (f : Fields) → IntoZa f → written s f ≡ s.
 written_za s f (inl e) = rw e
 written_za s f (inr e) = rw e
 
-module _ (s : Settings) (f : Fields) (z za : List ℕ) (p : Ready s z za) (g : Ranges f) (w : ℕ) (ew : w ≡ vector_bytes s) where
+module _ {s : Settings} {f : Fields} {z za : List ℕ} (p : Ready s z za) (g : Ranges f) {w : ℕ} (ew : w ≡ vector_bytes s) where
   pub sources_of : Sources f w z
   sources_of =
       record {

@@ -12,7 +12,7 @@ use Rattle.bits.specs.Bits.{rises, falls}
 use Rattle.bits.specs.declared.Toggles.{Toggles}
 use Rattle.machine.specs.Modes.{permits}
 use Rattle.machine.specs.Step.{z_after, za_after}
-use Rattle.machine.specs.declared.Counts.{Counts}
+use Rattle.tally.specs.declared.Counts.{Counts}
 
 -- the answer's number, its three counts, and the registers at the end
 pub record Outcome : Type 0 where

@@ -3,3 +3,4 @@ pub mod Step
 pub mod Execute
 pub mod Run
 pub mod Loop
+pub mod Same

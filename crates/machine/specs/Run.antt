@@ -1,7 +1,6 @@
 -- A run of words: each in its turn, and with a report.
 use Rattle.std.specs.Prelude.{ℕ, List, [], ◌∷◌}
 use Rattle.machine.specs.Execute.{Outcome}
-use Rattle.machine.specs.declared.Reported.{Reported}
 
 -- document 02: "four numbers for each word (refusal, rises, falls, written)", where a word that is not refused has 0 for the refusal
 abbrev pub Report : Type 0
@@ -10,9 +9,9 @@ Report = ℕ × ℕ × ℕ × ℕ
 abbrev pub report_of : Outcome → Report
 report_of o = (o.number, o.rises, o.falls, o.written)
 
--- the same numbers as the code answers them
-abbrev pub four_of : Reported → Report
-four_of r = (r.refusal, r.rises, r.falls, r.written)
+-- document 02: "four numbers for each word (refusal, rises, falls, written)" in the report
+abbrev pub four : Report → List ℕ
+four r = r.0 ∷ r.1 ∷ r.2 ∷ r.3 ∷ []
 
 -- what a run leaves: Z, ZA, and a report for each word
 pub record Run : Type 0 where

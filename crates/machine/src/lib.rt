@@ -10,7 +10,7 @@ ghost use Rattle.machine.specs.Modes.{permits};
 ghost use Rattle.machine.specs.Step.{za_after};
 ghost use Rattle.machine.specs.Loop.{made, RegisterRenewed, RegisterWritten, Grid, place, becomes, IntoV, Sources, Places, Ready};
 ghost use Rattle.machine.specs.Execute.{executed_says, written, stepped, Stepped, right_lengths, ExecutePromise};
-ghost use Rattle.machine.specs.Run.{report_of, four_of};
+ghost use Rattle.machine.specs.Run.{report_of, four};
 ghost use Rattle.words.specs.declared.Family.TheVariants.{Saturating};
 ghost use Rattle.words.specs.Ranges.{Ranges};
 ghost use Rattle.words.specs.Decode.{decode_paper};
@@ -18,24 +18,20 @@ ghost use Rattle.words.specs.Kinds.{fields_as};
 
 use bits::Toggles;
 use settings::{Features, Modes, Refusal, Settings};
+pub use tally::Counts;
 use words::{Family, Fields, Kind};
 
-// The bits that a step changed, which rose or fell, and those that it wrote.
-#[derive(Clone, Copy)]
-pub struct Counts {
-    pub rises: u32,
-    pub falls: u32,
-    pub written: u32,
+// A machine that stands ready: its settings are valid, and Z and ZA, which it was lent, have the lengths that they ask for.
+#[derive(Drop)]
+pub struct Machine<'a> {
+    pub settings: Settings,
+    pub z: &'a mut [u8],
+    pub za: &'a mut [u8],
+    pub ghost ready: { Ready settings z.now za.now },
 }
 
-// The four numbers of a word in the report: a refusal's number or 0, and the counts.
-#[derive(Clone, Copy)]
-pub struct Reported {
-    pub refusal: u32,
-    pub rises: u32,
-    pub falls: u32,
-    pub written: u32,
-}
+// Kept: the functions on Z take the fields, w and z, and those on ZA za beside them, each with one clause of them (`Sources`, `Places`). A struct that holds
+// what was lent would ask a clause of each in its place, that it still holds the same, and be made of a machine's own three fields for one call.
 
 // A, B: the V register, the low 16 bytes of the destination, becomes new; registers have w bytes. In A each element takes the one lane at the index of
 // the second source, and in B its own. Answers how many bits rose and fell.
@@ -51,8 +47,7 @@ fn step_v(fields: Fields, w: usize, z: &mut [u8]) -> Toggles
     let y = fields.second as usize * w;
     let unsigned = fields.unsigned;
     let subtract = fields.subtract;
-    let family = fields.family;
-    match family {
+    match fields.family {
         Family::ByElement => {
             let index = fields.index as usize * (lane / 8);
             chunks::renew_v(lane, unsigned, subtract, z, at, x, y + index, 0)
@@ -95,11 +90,10 @@ fn step_saturating(fields: Fields, w: usize, z: &mut [u8]) -> Toggles
     bits::replace(z, at, out)
 }
 
-// D, E, with k vectors for a source register: vector v of ZA, which is first + r·stride + i, becomes new. Answers how many bits rose and fell.
-fn step_vector(
+// D, E, with K vectors for a source register: vector v of ZA, which is first + r·stride + i, becomes new. Answers how many bits rose and fell.
+fn step_vector<const K: usize>(
     fields: Fields,
     w: usize,
-    k: usize,
     v: usize,
     r: usize,
     i: usize,
@@ -107,14 +101,14 @@ fn step_vector(
     za: &mut [u8],
 ) -> Toggles
     requires places { Places fields w z.now za.old }
-    requires k_value { k ≡ per_source fields.family }
-    requires v_lt_w { (v < w) × (r < fields.group) × (i < k) }
+    requires k_value { K ≡ per_source fields.family }
+    requires v_lt_w { (v < w) × (r < fields.group) × (i < K) }
     ensures { Replaced (v * w) result
         (made fields i w w v za.old (fields.first + r) (fields.second + r) z.now)
         za.old za.new }
 {
     let lane = fields.lane as usize;
-    let wide = k * lane;
+    let wide = K * lane;
     let at = v * w;
     let from = i * (lane / 8);
     let x = (fields.first as usize + r) * w + from;
@@ -124,85 +118,49 @@ fn step_vector(
     chunks::renew(lane, wide, unsigned, subtract, za, at, z, x, y, w)
 }
 
-// q / k, where k is 2 or 4: the vectors of a source register, or the group. A division by a numeral is a shift.
-fn quotient(q: usize, k: usize) -> usize
-    requires { (k ≡ 2) ⊎ (k ≡ 4) }
-    ensures { result ≡ q / k }
-{
-    if k == 4 {
-        return q / 4;
-    }
-    q / 2
-}
-
-// q % k, likewise.
-fn remainder(q: usize, k: usize) -> usize
-    requires { (k ≡ 2) ⊎ (k ≡ 4) }
-    ensures { result ≡ q % k }
-{
-    if k == 4 {
-        return q % 4;
-    }
-    q % 2
-}
-
-// D, E: the vectors first + r·stride + i of ZA become new, for r below the group and i below k. Answers how many bits rose and fell.
-fn step_vectors(
+// D, E: the vectors first + r·stride + i of ZA become new, for r below the group and i below K. Answers how many bits rose and fell.
+fn step_vectors<const K: usize>(
     fields: Fields,
     w: usize,
     first: usize,
     stride: usize,
-    k: usize,
     z: &[u8],
     za: &mut [u8],
 ) -> Toggles
     requires places { Places fields w z.now za.old }
-    requires grid { Grid w fields.group stride k first × (k ≡ per_source fields.family) }
-    ensures { (za.new ≡ replaced (place first stride k) (becomes fields w first stride k z.now za.old) w (fields.group * k) za.old) × (result ≡ toggles za.old za.new) }
+    requires grid { Grid w fields.group stride K first × (K ≡ per_source fields.family) }
+    ensures { (za.new ≡ replaced (place first stride K) (becomes fields w first stride K z.now za.old) w (fields.group * K) za.old) × (result ≡ toggles za.old za.new) }
 {
-    let count = fields.group as usize * k;
+    let count = fields.group as usize * K;
     let mut rises: u64 = 0;
     let mut falls: u64 = 0;
-    let mut q: usize = 0;
-    while q < count {
-        let r = quotient(q, k);
-        let i = remainder(q, k);
-        let toggles = step_vector(fields, w, k, first + r * stride + i, r, i, z, za);
+    for q in 0..count {
+        let r = q / K;
+        let i = q % K;
+        let toggles = step_vector::<K>(fields, w, first + r * stride + i, r, i, z, za);
         rises += toggles.rises;
         falls += toggles.falls;
-        q += 1;
     }
-    Toggles {
-        rises: rises,
-        falls: falls,
-    }
+    Toggles { rises, falls }
 }
 
-// D, E, with k vectors for a source register: ZA after the step. Answers how many bits rose and fell.
-fn step_array(settings: Settings, fields: Fields, k: usize, z: &[u8], za: &mut [u8]) -> Toggles
+// D, E, with K vectors for a source register: ZA after the step. Answers how many bits rose and fell.
+fn step_array<const K: usize>(
+    settings: Settings,
+    fields: Fields,
+    z: &[u8],
+    za: &mut [u8],
+) -> Toggles
     requires places { Places fields (array_bytes settings) z.now za.old }
-    requires k_value { k ≡ per_source fields.family }
+    requires k_value { K ≡ per_source fields.family }
     ensures { (za.new ≡ za_after settings fields z.now za.old) × (result ≡ toggles za.old za.new) }
 {
     let w = settings.array_bytes() as usize;
-    let stride = quotient(w, fields.group as usize);
+    let stride = w / fields.group as usize;
     let number = settings.select_register(fields.select) as usize;
     let selected = (number + fields.offset as usize) % stride;
-    let first = selected - remainder(selected, k);
-    step_vectors(fields, w, first, stride, k, z, za)
-}
-
-// A, B need SM off. C needs SM on, or SVE2. D, E need SM and ZA on.
-fn permitted(features: Features, modes: Modes, family: Family) -> bool
-    ensures { result ≡ permits features.0 modes.0 family }
-{
-    match family {
-        Family::ByElement => !modes.contains(Modes::SM),
-        Family::Vector => !modes.contains(Modes::SM),
-        Family::Saturating => modes.contains(Modes::SM) | features.contains(Features::SVE2),
-        Family::LongLong => modes.contains(Modes::SM) & modes.contains(Modes::ZA),
-        Family::Long => modes.contains(Modes::SM) & modes.contains(Modes::ZA),
-    }
+    let first = selected - selected % K;
+    step_vectors::<K>(fields, w, first, stride, z, za)
 }
 
 pub fn right_lengths(settings: Settings, z: usize, za: usize) -> bool
@@ -214,14 +172,14 @@ pub fn right_lengths(settings: Settings, z: usize, za: usize) -> bool
     (z == 32 * register) & (za == vector * vector)
 }
 
+// Kept: a function of its own, since `Fields` is another crate's type and the families' written counts are this crate's.
 fn written_bits(settings: Settings, fields: Fields) -> u32
     requires { (settings.vl ≤ 2048) × (fields.group ≤ 32) }
     ensures { result ≡ written settings fields }
 {
     let vl = settings.vl;
     let group = fields.group;
-    let family = fields.family;
-    match family {
+    match fields.family {
         Family::ByElement => vl,
         Family::Vector => vl,
         Family::Saturating => vl,
@@ -230,73 +188,83 @@ fn written_bits(settings: Settings, fields: Fields) -> u32
     }
 }
 
-// k: how many vectors a word writes for a source register.
-fn per_source(family: Family) -> usize
-    ensures { result ≡ per_source family }
-{
-    match family {
-        Family::ByElement => 1,
-        Family::Vector => 1,
-        Family::Saturating => 1,
-        Family::LongLong => 4,
-        Family::Long => 2,
+impl<'a> Machine<'a> {
+    ghost use Rattle.machine.specs.Same.{SameMachine};
+
+    // The registers after the step. Answers how many bits rose and fell.
+    // Kept: a `match` on the family, which a word says. A closure for each family would need the same `match` to be chosen by.
+    fn step_files(&mut self, fields: Fields) -> Toggles
+        requires { Ranges fields }
+        ensures stepped { Stepped self.old.settings fields result self.old.z.now self.old.za.now self.new.z.now self.new.za.now }
+        ensures same { SameMachine self.old self.new }
+    {
+        let settings = self.settings;
+        let w = settings.vector_bytes() as usize;
+        let z = &mut *self.z;
+        let za = &mut *self.za;
+        match fields.family {
+            Family::ByElement | Family::Vector => write_v(fields, w, z),
+            Family::Saturating => step_saturating(fields, w, z),
+            Family::LongLong => step_array::<4>(settings, fields, z, za),
+            Family::Long => step_array::<2>(settings, fields, z, za),
+        }
+    }
+
+    // The step, with its counts.
+    fn step(&mut self, fields: Fields) -> Counts
+        requires { Ranges fields }
+        ensures stepped { executed_says (Ok result) self.new.z.now self.new.za.now ≡ stepped self.old.settings fields self.old.z.now self.old.za.now }
+        ensures same { SameMachine self.old self.new }
+    {
+        let written = written_bits(self.settings, fields);
+        let toggles = self.step_files(fields);
+        Counts {
+            rises: toggles.rises as u32,
+            falls: toggles.falls as u32,
+            written,
+        }
+    }
+
+    // A, B need SM off. C needs SM on, or SVE2. D, E need SM and ZA on.
+    fn permits(&self, family: Family) -> bool
+        ensures { result ≡ permits self.now.settings.features.0 self.now.settings.modes.0 family }
+    {
+        let features = self.settings.features;
+        let modes = self.settings.modes;
+        match family {
+            Family::ByElement | Family::Vector => !modes.contains(Modes::SM),
+            Family::Saturating => modes.contains(Modes::SM) | features.contains(Features::SVE2),
+            Family::LongLong | Family::Long => modes.contains(Modes::SM)
+                & modes.contains(Modes::ZA),
+        }
+    }
+
+    // 4, or the step. The fields are read last: a word that is refused needs none.
+    fn execute_kind(&mut self, kind: Kind, word: u32) -> Result<Counts, Refusal>
+        requires { decode_paper self.old.settings word ≡ (0, fields_as kind word) }
+        ensures executed { ExecutePromise self.old.settings word self.old.z.now self.old.za.now result self.new.z.now self.new.za.now }
+        ensures same { SameMachine self.old self.new }
+    {
+        if !self.permits(words::kind_family(kind)) {
+            return Err(Refusal::WrongMode);
+        }
+        Ok(self.step(words::fields_of(kind, word)))
+    }
+
+    // 3, 4, or the step.
+    pub fn execute(&mut self, word: u32) -> Result<Counts, Refusal>
+        ensures executed { ExecutePromise self.old.settings word self.old.z.now self.old.za.now result self.new.z.now self.new.za.now }
+        ensures same { SameMachine self.old self.new }
+    {
+        let kind = words::kind_of(word);
+        if words::enables_kind(self.settings.features, kind, word) {
+            return self.execute_kind(kind, word);
+        }
+        Err(Refusal::UnknownWord)
     }
 }
 
-// The registers after the step. Answers how many bits rose and fell.
-fn step_files(settings: Settings, fields: Fields, w: usize, z: &mut [u8], za: &mut [u8]) -> Toggles
-    requires ready { Ready settings z.old za.old }
-    requires ranges { Ranges fields }
-    requires w_value { w ≡ vector_bytes settings }
-    ensures { Stepped settings fields result z.old za.old z.new za.new }
-{
-    let family = fields.family;
-    match family {
-        Family::ByElement | Family::Vector => write_v(fields, w, z),
-        Family::Saturating => step_saturating(fields, w, z),
-        _ => step_array(settings, fields, per_source(family), z, za),
-    }
-}
-
-// The step, with its counts.
-fn step(settings: Settings, fields: Fields, z: &mut [u8], za: &mut [u8]) -> Counts
-    requires ready { Ready settings z.old za.old }
-    requires ranges { Ranges fields }
-    ensures { executed_says (Ok result) z.new za.new ≡ stepped settings fields z.old za.old }
-{
-    let w = settings.vector_bytes() as usize;
-    let toggles = step_files(settings, fields, w, z, za);
-    let written = written_bits(settings, fields);
-    let rises = toggles.rises as u32;
-    let falls = toggles.falls as u32;
-    Counts {
-        rises: rises,
-        falls: falls,
-        written: written,
-    }
-}
-
-// 4, or the step. The fields are read last: a word that is refused needs none.
-fn execute_kind(
-    settings: Settings,
-    kind: Kind,
-    word: u32,
-    z: &mut [u8],
-    za: &mut [u8],
-) -> Result<Counts, Refusal>
-    requires ready { Ready settings z.old za.old }
-    requires word_value { decode_paper settings word ≡ (0, fields_as kind word) }
-    ensures { ExecutePromise settings word z.old za.old result z.new za.new }
-{
-    let features = settings.features;
-    let modes = settings.modes;
-    if !permitted(features, modes, words::kind_family(kind)) {
-        return Err(Refusal::WrongMode);
-    }
-    Ok(step(settings, words::fields_of(kind, word), z, za))
-}
-
-// 3, 4, or the step: for callers that have tested the settings and the lengths, once for many words.
+// 3, 4, or the step: for callers that have tested the settings and the lengths.
 pub fn execute_word(
     settings: Settings,
     word: u32,
@@ -306,12 +274,8 @@ pub fn execute_word(
     requires { Ready settings z.old za.old }
     ensures { ExecutePromise settings word z.old za.old result z.new za.new }
 {
-    let features = settings.features;
-    let kind = words::kind_of(word);
-    if words::enables_kind(features, kind, word) {
-        return execute_kind(settings, kind, word, z, za);
-    }
-    Err(Refusal::UnknownWord)
+    let mut machine = Machine { settings, z, za };
+    machine.execute(word)
 }
 
 // Executes one word. Z has 32 registers of VL/8 bytes, and ZA VL/8 vectors of VL/8 bytes. A refusal leaves both as they are.
@@ -332,22 +296,12 @@ pub fn execute(
     execute_word(settings, word, z, za)
 }
 
-// What a call answered, for the report.
-pub fn report_of(answer: Result<Counts, Refusal>) -> Reported
-    ensures { four_of result ≡ report_of (executed_says answer [] []) }
+// The four numbers of a word in the report: a refusal's number or 0, and the counts.
+pub fn report_of(answer: Result<Counts, Refusal>) -> [u32; 4]
+    ensures { result ≡ four (report_of (executed_says answer [] [])) }
 {
     match answer {
-        Ok(counts) => Reported {
-            refusal: 0,
-            rises: counts.rises,
-            falls: counts.falls,
-            written: counts.written,
-        },
-        Err(refusal) => Reported {
-            refusal: settings::refusal_number(refusal),
-            rises: 0,
-            falls: 0,
-            written: 0,
-        },
+        Ok(counts) => [0, counts.rises, counts.falls, counts.written],
+        Err(refusal) => [settings::refusal_number(refusal), 0, 0, 0],
     }
 }

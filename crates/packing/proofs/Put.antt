@@ -12,7 +12,7 @@ use Rattle.settings.specs.declared.Refusal.{Refusal}
 use Rattle.settings.proofs.Refusals.{tests_not_0}
 use Rattle.words.specs.Decode.{decoded_says}
 use Rattle.words.specs.declared.Fields.{Fields}
-use Rattle.machine.specs.declared.Counts.{Counts}
+use Rattle.tally.specs.declared.Counts.{Counts}
 use Rattle.words.specs.Numbers.{family_of}
 use Rattle.packing.specs.Packing.{halves, field_at, field_numbers, are_fields, fields_with, fields_from, decoded_into, ExecutedPut}
 use Rattle.packing.specs.Theorems.{HalvesBack}

@@ -1,5 +1,5 @@
 -- What C passes and gets, as numbers, as include/callinglamp.h says it: an answer, a word's fields, and what stands in the arrays that a call was lent.
-use Rattle.machine.specs.declared.Counts.{Counts}
+use Rattle.tally.specs.declared.Counts.{Counts}
 use Rattle.settings.specs.declared.Refusal.{Refusal}
 use Rattle.std.specs.Prelude.{ℕ, ◌+◌, ◌*◌, ◌/◌, ◌%◌, ◌^◌, ◌<◌, ◌≡◌, Bool, ◌&&◌, cond, List, [], ◌∷◌, eqb, leb, get_or, set, replicate, Option, Some, None, Result, MatchResult}
 use Rattle.words.specs.Numbers.{family_number, family_of, bit_of}

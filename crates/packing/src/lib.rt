@@ -10,11 +10,11 @@ ghost use Rattle.spelling.specs.Print.{printed_says};
 ghost use Rattle.spelling.specs.Language.{read_says};
 ghost use Rattle.packing.specs.Packing.{halves, field_numbers, are_fields, fields_with, fields_from, decoded_into, ExecutedPut, FitsHalf, RanPut, TextFits};
 
-use machine::Counts;
 use numbers::Fault;
 use runlist::Ran;
 use settings::{Refusal, Settings};
 use spelling::{Printed, WordRead};
+use tally::Counts;
 use words::{Family, Fields};
 
 // What 1 in the high half of an answer counts.

@@ -5,7 +5,7 @@ use mathlib.Core.List.{List}
 use Rattle.std.specs.Prelude.{Result, Ok, Err}
 use Rattle.settings.specs.declared.Refusal.{Refusal}
 use Rattle.settings.proofs.Refusals.{refusal_known, not_0}
-use Rattle.tally.specs.declared.Tally.{Tally}
+use Rattle.tally.specs.declared.Counts.{Counts}
 use Rattle.numbers.specs.declared.Fault.{Fault}
 use Rattle.runlist.specs.RunList.{Ended, run_says, RunPromise}
 use Rattle.runlist.specs.declared.Ran.{Ran}
@@ -17,7 +17,7 @@ number o = o.number
 run_known : (r q : Result Ran Fault) (z za report z' za' report' : List ℕ) → run_says r z za report ≡ run_says q z' za' report' → r ≡ q
 unfolding number
 run_known (Ok a) (Ok b) z za report z' za' report' e =
-    ap₂ (λ (n : ℕ) (t : Tally). Ok (record { words = n; tally = t })) (ap (λ (o : Ended). o.words) e) (ap (λ (o : Ended). o.tally) e)
+    ap₂ (λ (n : ℕ) (t : Counts). Ok (record { words = n; tally = t })) (ap (λ (o : Ended). o.words) e) (ap (λ (o : Ended). o.tally) e)
 run_known (Ok a) (Err f) z za report z' za' report' e = absurd (not_0 f.refusal (sym (ap number e)))
 run_known (Err f) (Ok a) z za report z' za' report' e = absurd (not_0 f.refusal (ap number e))
 run_known (Err f) (Err g) z za report z' za' report' e =

@@ -5,23 +5,23 @@ use mathlib.Core.List.{List, [], ◌∷◌}
 use lib.ListN.{length}
 use Rattle.settings.specs.declared.Settings.{Settings}
 use Rattle.tally.specs.Tally.{plus}
-use Rattle.tally.specs.declared.Tally.{Tally}
+use Rattle.tally.specs.declared.Counts.{Counts}
 use Rattle.machine.specs.Execute.{Outcome, execute_paper}
 use Rattle.machine.specs.Run.{run_of}
 use Rattle.machine.proofs.Small.{Small, counts_small}
 use Rattle.runlist.specs.RunList.{no_tally, tallied}
 
 -- n words can have counted as many
-abbrev pub Within : ℕ → Tally → Type 0
+abbrev pub Within : ℕ → Counts → Type 0
 Within n t = (t.rises ≤ 49152 * n) × (t.falls ≤ 49152 * n) × (t.written ≤ 8192 * n)
 
 pub none_within : Within 0 no_tally
 none_within = (omega arith, omega arith, omega arith)
 
-pub one_more : (n : ℕ) (t : Tally) (o : Outcome) → Within n t → Small o → Within (n + 1) (plus t o.rises o.falls o.written)
+pub one_more : (n : ℕ) (t : Counts) (o : Outcome) → Within n t → Small o → Within (n + 1) (plus t o.rises o.falls o.written)
 one_more n t o b few = (omega (arith, b.0, few.0), omega (arith, b.1, few.1), omega (arith, b.2, few.2))
 
-words_more : (s : Settings) (ws z za : List ℕ) (n : ℕ) (t : Tally) → Within n t
+words_more : (s : Settings) (ws z za : List ℕ) (n : ℕ) (t : Counts) → Within n t
     → Within (n + length ws) (tallied t (run_of (execute_paper s) ws z za).reports)
 unfolding run_of tallied
 words_more s [] z za n t b = (omega (arith, b.0), omega (arith, b.1), omega (arith, b.2))

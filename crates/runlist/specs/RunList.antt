@@ -2,9 +2,9 @@
 use Rattle.std.specs.Prelude.{ℕ, ◌+◌, ◌*◌, ◌≡◌, List, [], ◌∷◌, ◌++◌, length, take, drop, replicate, Result, Ok, Err}
 use Rattle.settings.specs.Refused.{refusal_number}
 use Rattle.tally.specs.Tally.{plus}
-use Rattle.tally.specs.declared.Tally.{Tally}
+use Rattle.tally.specs.declared.Counts.{Counts}
 use Rattle.machine.specs.Execute.{execute_paper}
-use Rattle.machine.specs.Run.{Report, Run, run_of}
+use Rattle.machine.specs.Run.{Report, four, Run, run_of}
 use Rattle.runlist.specs.Plan.{lengths_of, Found, found, refused, Asked, plan_of}
 use Rattle.runlist.specs.declared.Ran.{Ran}
 use Rattle.numbers.specs.declared.Fault.{Fault}
@@ -14,22 +14,18 @@ pub record Ended : Type 0 where
   pub number : ℕ
   pub place : ℕ
   pub words : ℕ
-  pub tally : Tally
+  pub tally : Counts
   pub z : List ℕ
   pub za : List ℕ
   pub report : List ℕ
 
-abbrev pub no_tally : Tally
+abbrev pub no_tally : Counts
 no_tally = record { rises = 0; falls = 0; written = 0 }
 
 -- "A running tally is brought up to date by each word"
-unfoldable pub tallied : Tally → List Report → Tally
+unfoldable pub tallied : Counts → List Report → Counts
 tallied t [] = t
 tallied t (r ∷ rs) = tallied (plus t r.1 r.2 r.3) rs
-
--- document 02: "four numbers for each word (refusal, rises, falls, written)" in the report
-abbrev pub four : Report → List ℕ
-four r = r.0 ∷ r.1 ∷ r.2 ∷ r.3 ∷ []
 
 unfoldable pub fours : List Report → List ℕ
 fours [] = []
@@ -78,7 +74,7 @@ abbrev pub with_four : ℕ → Report → List ℕ → List ℕ
 with_four i r report = take (4 * i) report ++ (four r ++ drop (4 * i + 4) report)
 
 -- a run as the code leaves it
-pub record Performed (r : Run) (n : ℕ) (report : List ℕ) (t : Tally) (z' za' report' : List ℕ) : Type 0 where
+pub record Performed (r : Run) (n : ℕ) (report : List ℕ) (t : Counts) (z' za' report' : List ℕ) : Type 0 where
   pub z_is : z' ≡ r.z
   pub za_is : za' ≡ r.za
   pub report_is : report' ≡ fours r.reports ++ drop (4 * n) report

@@ -1,18 +1,19 @@
 #![tactic(auto)]
 
-ghost use Rattle.std.specs.Prelude.{◌≡◌, ◌+◌, ◌*◌, ◌≤◌, length};
+ghost use Rattle.std.specs.Prelude.{◌≡◌, ◌+◌, ◌*◌, ◌≤◌, ◌++◌, length, take, drop};
 ghost use Rattle.machine.specs.Execute.{execute_paper};
-ghost use Rattle.machine.specs.Run.{four_of, run_of};
+ghost use Rattle.machine.specs.Run.{run_of};
 ghost use Rattle.machine.specs.Loop.{Ready};
+ghost use Rattle.machine.specs.Same.{SameMachine};
 ghost use Rattle.numbers.specs.Numbers.{numbers_at, filled};
 ghost use Rattle.runlist.specs.Plan.{most_words, ended_at, settings_of};
 ghost use Rattle.runlist.specs.Rooms.{words_say, goes_on, CountRead, RestRead, FrontRead};
-ghost use Rattle.runlist.specs.RunList.{carried_out, run_says, with_four, RunPromise, Performed};
+ghost use Rattle.runlist.specs.RunList.{carried_out, run_says, RunPromise, Performed};
 
-use machine::Reported;
+use machine::Machine;
 use numbers::{Fault, Number};
 use settings::{Features, Modes, Refusal, Settings};
-use tally::Tally;
+use tally::Counts;
 
 // The most words that a list may have.
 pub const MOST_WORDS: usize = 1024;
@@ -27,7 +28,7 @@ const HEAD: usize = 7;
 #[derive(Clone, Copy)]
 pub struct Ran {
     pub words: usize,
-    pub tally: Tally,
+    pub tally: Counts,
 }
 
 // How much is lent for a run: the bytes of Z and ZA, and the numbers of the report.
@@ -138,40 +139,25 @@ pub fn read_front(list: &[u8], lengths: Lengths) -> Result<Front, Fault>
 }
 
 // The numbers of word i.
-fn put_report(report: &mut [u32], i: usize, numbers: Reported)
+fn put_report(report: &mut [u32], i: usize, numbers: &[u32; 4])
     requires { 4 * i + 4 ≤ length report.old }
-    ensures { report.new ≡ with_four i (four_of numbers) report.old }
+    ensures { report.new ≡ take (4 * i) report.old ++ (numbers.now ++ drop (4 * i + 4) report.old) }
 {
-    report[4 * i] = numbers.refusal;
-    report[4 * i + 1] = numbers.rises;
-    report[4 * i + 2] = numbers.falls;
-    report[4 * i + 3] = numbers.written;
+    report[4 * i..4 * i + 4].copy_from_slice(numbers);
 }
 
 // Executes each word in its turn, and reports it. A word that is refused changes no register, and the run goes on.
-fn perform(
-    settings: Settings,
-    words: &[u32],
-    z: &mut [u8],
-    za: &mut [u8],
-    report: &mut [u32],
-) -> Tally
-    requires ready { Ready settings z.old za.old }
-    requires words_len_bound { (length words.now ≤ most_words) × (4 * length words.now ≤ length report.old) }
-    ensures { Performed (run_of (execute_paper settings) words.now z.old za.old) (length words.now) report.old
-        result z.new za.new report.new }
+fn perform(machine: &mut Machine<'_>, words: &[u32], report: &mut [u32]) -> Counts
+    requires { (length words.now ≤ most_words) × (4 * length words.now ≤ length report.old) }
+    ensures performed { Performed (run_of (execute_paper machine.old.settings) words.now machine.old.z.now machine.old.za.now) (length words.now) report.old
+        result machine.new.z.now machine.new.za.now report.new }
+    ensures same { SameMachine machine.old machine.new }
 {
-    let mut tally = Tally {
-        rises: 0,
-        falls: 0,
-        written: 0,
-    };
-    let mut i = 0;
-    while i < words.len() {
-        let numbers = machine::report_of(machine::execute_word(settings, words[i], z, za));
-        tally = tally::counted(tally, numbers.rises, numbers.falls, numbers.written);
-        put_report(report, i, numbers);
-        i += 1;
+    let mut tally = Counts::default();
+    for (i, word) in words.iter().enumerate() {
+        let answer = machine.execute(*word);
+        put_report(report, i, &machine::report_of(answer));
+        tally += answer.unwrap_or_default();
     }
     tally
 }
@@ -194,7 +180,12 @@ fn run_words(
     let end = front.at + z.len();
     z.copy_from_slice(&list[front.at..end]);
     za.fill(0);
-    let tally = perform(front.settings, words, z, za, report);
+    let mut machine = Machine {
+        settings: front.settings,
+        z,
+        za,
+    };
+    let tally = perform(&mut machine, words, report);
     Ok(Ran {
         words: words.len(),
         tally,

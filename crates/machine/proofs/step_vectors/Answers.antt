@@ -17,17 +17,16 @@ small f w z za stride k first q so_far more p g in_turn = count_next w q (f.grou
 
 pub loop-q-init : goal.loop-q-init
 unfolding replaced
-loop-q-init c = (omega arith, refl, (sym (rises_same _), sym (falls_same _)), (omega arith, omega arith), refl)
+loop-q-init g c = (refl, (sym (rises_same _), sym (falls_same _)), (omega arith, omega arith), refl)
 
 pub loop-q-preserved : goal.loop-q-preserved
-loop-q-preserved c =
+loop-q-preserved g c =
     let turned : Turned c.requires.places c.requires.grid.0 c.loop-q.q c.step_vector-toggles.result c.loop-q.za c.step_vector-toggles.new.za =
-    turn c.requires.places c.requires.grid.0 c.loop-q.q c.step_vector-toggles.result _ _ c.loop-q.za _ c.loop-q-test.true c.loop-q.invariant.1 c.quotient-r.ensures c.remainder-i.ensures c.step_vector-toggles.ensures in
-    let rises = small c.args.fields c.args.w c.args.z.now c.args.za.now c.args.stride c.args.k c.args.first c.loop-q.q c.loop-q.rises c.step_vector-toggles.result.rises c.requires.places c.requires.grid c.loop-q-test.true c.loop-q.invariant.3.0 (omega (arith, turned.few)) in
-    let falls = small c.args.fields c.args.w c.args.z.now c.args.za.now c.args.stride c.args.k c.args.first c.loop-q.q c.loop-q.falls c.step_vector-toggles.result.falls c.requires.places c.requires.grid c.loop-q-test.true c.loop-q.invariant.3.1 (omega (arith, turned.few)) in (
-      omega (arith, c.loop-q-test.true),
+    turn c.requires.places c.requires.grid.0 c.loop-q.q c.step_vector-toggles.result _ _ c.loop-q.za _ c.loop-q-test.true c.loop-q.invariant.0 refl refl c.step_vector-toggles.ensures in
+    let rises = small c.args.fields c.args.w c.args.z.now c.args.za.now c.args.stride g.row.K c.args.first c.loop-q.q c.loop-q.rises c.step_vector-toggles.result.rises c.requires.places c.requires.grid c.loop-q-test.true c.loop-q.invariant.2.0 (omega (arith, turned.few)) in
+    let falls = small c.args.fields c.args.w c.args.z.now c.args.za.now c.args.stride g.row.K c.args.first c.loop-q.q c.loop-q.falls c.step_vector-toggles.result.falls c.requires.places c.requires.grid c.loop-q-test.true c.loop-q.invariant.2.1 (omega (arith, turned.few)) in (
       turned.after,
-      (ap (λ (n : ℕ). n + c.step_vector-toggles.result.rises) c.loop-q.invariant.2.0 ∙ turned.rise, ap (λ (n : ℕ). n + c.step_vector-toggles.result.falls) c.loop-q.invariant.2.1 ∙ turned.fall),
+      (ap (λ (n : ℕ). n + c.step_vector-toggles.result.rises) c.loop-q.invariant.1.0 ∙ turned.rise, ap (λ (n : ℕ). n + c.step_vector-toggles.result.falls) c.loop-q.invariant.1.1 ∙ turned.fall),
       (rises.0, falls.0),
-      c.step_vector-toggles.auto.za ∙ c.loop-q.invariant.4,
+      c.step_vector-toggles.auto.za ∙ c.loop-q.invariant.3,
     )
