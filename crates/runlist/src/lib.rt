@@ -162,20 +162,21 @@ fn perform(machine: &mut Machine<'_>, words: &[u32], report: &mut [u32]) -> Coun
     tally
 }
 
-// Reads the words, as many as `words` has room for, and runs them from the list's Z bytes on.
-fn run_words(
+// Reads the words into a room for so many, and runs them from the list's Z bytes on.
+fn run_words<const ROOM: usize>(
     list: &[u8],
     front: Front,
-    words: &mut [u32],
     z: &mut [u8],
     za: &mut [u8],
     report: &mut [u32],
 ) -> Result<Ran, Fault>
     requires ready { Ready front.settings z.old za.old × (front.at + length z.old ≤ length list.now) }
-    requires words_len_bound { (length words.old ≤ most_words) × (4 * length words.old ≤ length report.old) }
+    requires few { (front.words ≤ ROOM) × (ROOM ≤ most_words) × (4 * front.words ≤ length report.old) }
     ensures { run_says result z.new za.new report.new
-        ≡ carried_out (goes_on front.settings list.now front.at (length z.old) front.from (length words.old)) z.old za.old report.old }
+        ≡ carried_out (goes_on front.settings list.now front.at (length z.old) front.from front.words) z.old za.old report.old }
 {
+    let mut room = [0u32; ROOM];
+    let words = &mut room[..front.words];
     read_to_end(list, front.from, words)?;
     let end = front.at + z.len();
     z.copy_from_slice(&list[front.at..end]);
@@ -187,7 +188,7 @@ fn run_words(
     };
     let tally = perform(&mut machine, words, report);
     Ok(Ran {
-        words: words.len(),
+        words: front.words,
         tally,
     })
 }
@@ -203,9 +204,7 @@ pub fn run(list: &[u8], z: &mut [u8], za: &mut [u8], report: &mut [u32]) -> Resu
     };
     let front = read_front(list, lengths)?;
     if front.words <= FEW_WORDS {
-        let mut few = [0u32; FEW_WORDS];
-        return run_words(list, front, &mut few[..front.words], z, za, report);
+        return run_words::<FEW_WORDS>(list, front, z, za, report);
     }
-    let mut words = [0u32; MOST_WORDS];
-    run_words(list, front, &mut words[..front.words], z, za, report)
+    run_words::<MOST_WORDS>(list, front, z, za, report)
 }
