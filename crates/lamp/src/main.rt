@@ -78,7 +78,7 @@ fn put_answer(
     }
 }
 
-// What is to be printed of a list, into `out`. A text that this handed out stood on the stack four times: 432 KiB, where these need 152.
+// What is to be printed of a list, into `out`. A text that this handed out stood on the stack four times: 432 KiB in place of 144.
 fn put_printed(list: &[u8], out: &mut ArrayString<TEXT>)
     requires { out.old.bytes ≡ [] }
     ensures { out.new.bytes ≡ printed list.now }
