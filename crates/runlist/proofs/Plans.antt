@@ -1,7 +1,7 @@
 -- What a list asks for, by the tests that the code makes. Assumes nothing.
 use Prim.Native.Nat.{ℕ, ◌+◌, ◌*◌, ◌<◌, ◌≤◌}
 use native.Mathlib.Omega.{arith}
-use mathlib.Core.Path.{◌≡◌, sym, ap, ◌∙◌, subst}
+use mathlib.Core.Path.{◌≡◌, refl, sym, ap, ◌∙◌, subst}
 use mathlib.Core.Bool.{true, false}
 use mathlib.Core.Logic.{◌≢◌}
 use mathlib.Core.List.{List}
@@ -12,6 +12,7 @@ use Rattle.settings.specs.declared.Refusal.{Refusal}
 use Rattle.settings.specs.declared.Refusal.TheVariants.{BadSettings, BadLength, ListEnds, TooManyWords, ExtraBytes}
 use Rattle.settings.specs.declared.Settings.{Settings}
 use Rattle.std.specs.Prelude.{Result, Ok, Err, IfOk}
+use Rattle.std.proofs.lemmas.Result.{IfOk-weaker}
 use Rattle.numbers.specs.Numbers.{Numbers, all, Read, number, no_number, number_at, numbers_at, values_of, row_of, filled}
 use Rattle.numbers.specs.declared.Fault.{Fault}
 use Rattle.numbers.specs.declared.Number.{Number}
@@ -88,7 +89,7 @@ z_read list lent s at v l h = sym (rw (v, l, z_right s lent l, le-leb (at + lent
 
 -- where a list ends before its words
 none_front : (list : List ℕ) (lent : Lengths) (s : Settings) (at : ℕ) (f : Fault) → refused f.refusal f.place ≡ settled_from list lent s at → RestRead list lent s at (Err f)
-none_front list lent s at f e = record { says = e; fits = tt; settled = tt }
+none_front list lent s at f e = record { says = e; fits = tt; settled = tt; given = tt }
 
 module _ (list : List ℕ) (lent : Lengths) (s : Settings) (at : ℕ) where
   pub unsettled : valid_settings s ≡ false → RestRead list lent s at (Err (record { refusal = BadSettings; place = 0 }))
@@ -119,6 +120,7 @@ module _ (list : List ℕ) (lent : Lengths) (s : Settings) (at : ℕ) where
               says = ap (λ (x : Read). asking s (take lent.z (drop at list)) (count_says x list)) (sym e) ∙ go_on;
               fits = (h, few.0, few.1);
               settled = (v, l);
+              given = (refl, refl);
             }
 
 -- ---- the seven numbers, and what follows them
@@ -129,7 +131,7 @@ module _ (list : List ℕ) (lent : Lengths) (room : List ℕ) (l : length room �
 
   pub no-head : (f : Fault) → row_of (numbers_at list 0 (length room)) ≡ Err f → FrontRead list lent (Err f)
   unfolding plan_of
-  no-head f e = record { says = sym (ap (headed list lent) (sym seven ∙ told-fault _ f e)); fits = tt; settled = tt }
+  no-head f e = record { says = sym (ap (headed list lent) (sym seven ∙ told-fault _ f e)); fits = tt; settled = tt; read = tt }
 
   pub headed_by : (head : List ℕ) → head ≡ filled (numbers_at list 0 (length room)) room → (p : ℕ) → row_of (numbers_at list 0 (length room)) ≡ Ok p
       → (s : Settings) → s ≡ settings_of head → (r : Result Front Fault) → RestRead list lent s p r → FrontRead list lent r
@@ -140,4 +142,5 @@ module _ (list : List ℕ) (lent : Lengths) (room : List ℕ) (l : length room �
         says = d.says ∙ ap (λ (x : Settings). settled_from list lent x p) q ∙ sym (ap (headed list lent) is);
         fits = d.fits;
         settled = d.settled;
+        read = IfOk-weaker r _ _ (λ x g. (head, is ∙ ap (all head) (sym g.1), g.0 ∙ q)) d.given;
       }

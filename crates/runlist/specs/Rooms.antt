@@ -3,10 +3,10 @@
 use Rattle.std.specs.Prelude.{ℕ, ◌+◌, ◌*◌, ◌≤◌, ◌≡◌, true, List, length, take, drop, Result, Ok, Err, IfOk}
 use Rattle.settings.specs.Valid.{valid_settings}
 use Rattle.settings.specs.declared.Settings.{Settings}
-use Rattle.numbers.specs.Numbers.{Read, numbers_at}
+use Rattle.numbers.specs.Numbers.{all, Read, numbers_at}
 use Rattle.numbers.specs.declared.Fault.{Fault}
 use Rattle.machine.specs.Execute.{right_lengths}
-use Rattle.runlist.specs.Plan.{Found, found, refused, Asked, most_words, ended_at, words_from, asking, settled_from, plan_of}
+use Rattle.runlist.specs.Plan.{Found, found, refused, Asked, most_words, ended_at, words_from, asking, settled_from, settings_of, plan_of}
 use Rattle.runlist.specs.declared.Front.{Front}
 use Rattle.runlist.specs.declared.Lengths.{Lengths}
 
@@ -48,14 +48,16 @@ pub record CountRead (list : List ℕ) (report at : ℕ) (r : Read) : Type 0 whe
   pub says : (z za : ℕ) → count_says r list ≡ words_from list (record { z = z; za = za; report = report }) at
   pub fits : IfOk r (λ n. (n.value ≤ most_words) × (4 * n.value ≤ report))
 
--- what follows the seven numbers
+-- what follows the seven numbers, which end at `at`
 pub record RestRead (list : List ℕ) (lent : Lengths) (s : Settings) (at : ℕ) (r : Result Front Fault) : Type 0 where
   pub says : front_says r list lent.z ≡ settled_from list lent s at
   pub fits : FrontFits r list lent
   pub settled : Settled r lent
+  pub given : IfOk r (λ f. (f.settings ≡ s) × (f.at ≡ at))
 
--- all before the words
+-- all before the words, with the settings of the seven numbers as they were read
 pub record FrontRead (list : List ℕ) (lent : Lengths) (r : Result Front Fault) : Type 0 where
   pub says : front_says r list lent.z ≡ plan_of list lent
   pub fits : FrontFits r list lent
   pub settled : Settled r lent
+  pub read : IfOk r (λ f. (head : List ℕ) × (numbers_at list 0 7 ≡ all head f.at) × (f.settings ≡ settings_of head))
