@@ -6,7 +6,6 @@ use native.Mathlib.Omega.{arith}
 use mathlib.Core.Path.{◌≡◌, sym, ap, ap₂, ◌∙◌}
 use mathlib.Core.Logic.{◌⊎◌, inl, inr}
 use mathlib.Core.List.{List}
-use lib.ListN.{length}
 use Rattle.words.specs.declared.Fields.{Fields}
 use Rattle.elements.specs.Elements.{splice}
 use Rattle.elements.specs.Files.{vector_at, replaced}
@@ -20,7 +19,7 @@ use Rattle.recipes.specs.Recipe.{recipe_of, per_source}
 use Rattle.lanes.specs.Element.{new_bytes}
 use Rattle.recipes.proofs.Inside.{length-new_bytes}
 use Rattle.machine.specs.Loop.{made, Grid, place, becomes, Places}
-use Rattle.machine.proofs.Grid.{r_lt, i_lt, place_lt, place_distinct}
+use Rattle.machine.proofs.Grid.{place_distinct}
 use Rattle.machine.proofs.Array.{group_numbers, two_or_four_vectors, placed_to}
 
 module _ {f : Fields} {w : ℕ} {z za₀ : List ℕ} (p : Places f w z za₀) {stride k first : ℕ} (g : Grid w f.group stride k first) where
@@ -33,11 +32,6 @@ module _ {f : Fields} {w : ℕ} {z za₀ : List ℕ} (p : Places f w z za₀) {s
       by (inl a) (inr b) = rw (a, b) (omega arith)
       by (inr a) (inl b) = rw (a, b) (omega arith)
       by (inr a) (inr b) = rw (a, b) (omega arith)
-
-  -- vector q, by its r and i
-  pub row_lt : (q r i : ℕ) → q < f.group * k → r ≡ q / k → i ≡ q % k → (first + r * stride + i < w) × (r < f.group) × (i < k)
-  unfolding place
-  row_lt q r i h er ei = rw (er, ei) (place_lt g q h, r_lt g q h, i_lt g q)
 
   abbrev at : ℕ → ℕ
   at = place first stride k
@@ -87,10 +81,6 @@ module _ {f : Fields} {w : ℕ} {z za₀ : List ℕ} (p : Places f w z za₀) {s
       → Turned q d za za'
   unfolding place
   turn q d r i za za' h e er ei = rw (er, ei) (turn_at q d za za' h e)
-
--- the places stay
-pub again : {f : Fields} {w : ℕ} {z za za₀ : List ℕ} → Places f w z za₀ → length za ≡ length za₀ → Places f w z za
-again p e = record { sources = p.sources; into = p.into; za_long = e ∙ p.za_long }
 
 -- a count so far, and that it stays small
 pub count_next : (w q n t d : ℕ) → w ≤ 256 → n ≤ 16 → q < n → t ≤ q * (8 * w) → d ≤ 8 * w → (t + d ≤ (q + 1) * (8 * w)) × (t + d ≤ 32768)

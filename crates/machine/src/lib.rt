@@ -30,8 +30,7 @@ pub struct Machine<'a> {
     pub ghost ready: { Ready settings z.now za.now },
 }
 
-// Kept: the functions on Z take the fields, w and z, and those on ZA za beside them, each with one clause of them (`Sources`, `Places`). A struct that holds
-// what was lent would ask a clause of each in its place, that it still holds the same, and be made of a machine's own three fields for one call.
+// Kept: fields, w, z and za go from function to function under `Sources` or `Places`; a struct of them would owe in each that it still holds the same.
 
 // A, B: the V register, the low 16 bytes of the destination, becomes new; registers have w bytes. In A each element takes the one lane at the index of
 // the second source, and in B its own. Answers how many bits rose and fell.

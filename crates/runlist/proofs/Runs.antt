@@ -21,7 +21,7 @@ use Rattle.runlist.specs.Plan.{lengths_of, Found, refused, Asked, plan_of}
 use Rattle.runlist.specs.RunList.{no_tally, tallied, fours, carried_out, run_paper, run_says, RunPromise, with_four, Performed}
 use Rattle.runlist.specs.declared.Ran.{Ran}
 use Rattle.numbers.specs.declared.Fault.{Fault}
-use Rattle.runlist.proofs.Tallies.{Within, none_within, one_more}
+use Rattle.runlist.proofs.Tallies.{Within, one_more}
 
 -- i words are done: what is left of the run makes up the whole of it
 pub record Running (s : Settings) (ws z₀ za₀ report₀ : List ℕ) (z za report : List ℕ) (t : Counts) (i : ℕ) : Type 0 where
@@ -31,17 +31,6 @@ pub record Running (s : Settings) (ws z₀ za₀ report₀ : List ℕ) (z za rep
   pub rest_as_was : drop (4 * i) report ≡ drop (4 * i) report₀
   pub tally_left : tallied no_tally (run_of (execute_paper s) ws z₀ za₀).reports ≡ tallied t (run_of (execute_paper s) (drop i ws) z za).reports
   pub small : Within i t
-
-pub starting : (s : Settings) (ws z za report : List ℕ) → Running s ws z za report z za report no_tally 0
-starting s ws z za report =
-    record {
-      z_left = refl;
-      za_left = refl;
-      reports_left = refl;
-      rest_as_was = refl;
-      tally_left = refl;
-      small = none_within;
-    }
 
 -- an answer's four numbers do not hang on Z and ZA
 says_report : (e : Result Counts Refusal) (z za : List ℕ) → report_of (executed_says e [] []) ≡ report_of (executed_says e z za)
