@@ -14,8 +14,6 @@ use Rattle.rate.proofs.Rate as rate
 use Rattle.numbers.specs.declared.Fault.{Fault}
 use Rattle.runlist.specs.declared.Ran.{Ran}
 use Rattle.runlist.proofs.Answers as runlist
-use Rattle.spelling.specs.declared.Printed.{Printed}
-use Rattle.spelling.specs.declared.WordRead.{WordRead}
 use Rattle.spelling.proofs.Theorems as spelling
 use Rattle.callinglamp.specs.Promises.{DecodePromise, EncodePromise, PartnerPromise, ExecutePromise, PercentPromise, RunPromise, PrintPromise, ReadPromise}
 
@@ -44,10 +42,10 @@ pub run_unique : (list z za report : List ℕ) (r q : Result Ran Fault) (z1 za1 
 run_unique = runlist.run_unique
 
 -- the answer, and the room at the end
-pub print_unique : (settings : Settings) (word : ℕ) (room : List ℕ) (r q : Printed) (room1 room2 : List ℕ)
+pub print_unique : (settings : Settings) (word : ℕ) (room : List ℕ) (r q : Result ℕ Refusal) (room1 room2 : List ℕ)
     → PrintPromise settings word room r room1 → PrintPromise settings word room q room2
     → (r ≡ q) × (room1 ≡ room2)
 print_unique = spelling.print_unique
 
-pub read_unique : (settings : Settings) (text : List ℕ) (r q : WordRead) → ReadPromise settings text r → ReadPromise settings text q → r ≡ q
+pub read_unique : (settings : Settings) (text : List ℕ) (r q : Result ℕ Refusal) → ReadPromise settings text r → ReadPromise settings text q → r ≡ q
 read_unique = spelling.read_unique

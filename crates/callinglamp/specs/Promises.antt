@@ -16,8 +16,6 @@ use Rattle.numbers.specs.declared.Fault.{Fault}
 use Rattle.runlist.specs.declared.Ran.{Ran}
 use Rattle.spelling.specs.Print as print
 use Rattle.spelling.specs.Language as language
-use Rattle.spelling.specs.declared.Printed.{Printed}
-use Rattle.spelling.specs.declared.WordRead.{WordRead}
 
 -- the fields of a word. "Decode tests 1, 3"
 abbrev pub DecodePromise : Settings → ℕ → Result Fields Refusal → Type 0
@@ -46,10 +44,10 @@ RunPromise = runlist.RunPromise
 
 -- "Arm's preferred assembler text for every word of the five families, in lower case with one fixed spacing": its length, and the room at the end.
 -- "printing tests 1, 3, then 12 where the room is shorter than the text"
-abbrev pub PrintPromise : Settings → ℕ → List ℕ → Printed → List ℕ → Type 0
+abbrev pub PrintPromise : Settings → ℕ → List ℕ → Result ℕ Refusal → List ℕ → Type 0
 PrintPromise = print.PrintPromise
 
 -- "The reader takes the printed text, and also the text without `vgx2` or `vgx4` ..; nothing else." "reading tests 1, then 11 for text not of the
 -- language, then 3 for a missing feature"
-abbrev pub ReadPromise : Settings → List ℕ → WordRead → Type 0
+abbrev pub ReadPromise : Settings → List ℕ → Result ℕ Refusal → Type 0
 ReadPromise = language.ReadPromise

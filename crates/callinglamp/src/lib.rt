@@ -6,7 +6,7 @@ ghost use Rattle.callinglamp.specs.Promises.{DecodePromise, EncodePromise, Partn
 pub use numbers::Fault;
 pub use runlist::Ran;
 pub use settings::{Features, Modes, Refusal, Settings};
-pub use spelling::{Printed, WordRead, longest_text};
+pub use spelling::longest_text;
 pub use tally::Counts;
 pub use words::{Family, Fields};
 
@@ -53,14 +53,14 @@ pub fn run(list: &[u8], z: &mut [u8], za: &mut [u8], report: &mut [u32]) -> Resu
 }
 
 // The preferred text of a word, at the start of the room, whose rest stays. Refusals 1, 3, 12, which leave the room as it is.
-pub fn print_word(settings: Settings, word: u32, room: &mut [u8]) -> Printed
+pub fn print_word(settings: Settings, word: u32, room: &mut [u8]) -> Result<usize, Refusal>
     ensures { PrintPromise settings word room.old result room.new }
 {
     spelling::print(settings, word, room)
 }
 
 // The word of a text, with vgx or without. Refusals 1, 11, 3.
-pub fn read_word(settings: Settings, text: &[u8]) -> WordRead
+pub fn read_word(settings: Settings, text: &[u8]) -> Result<u32, Refusal>
     ensures { ReadPromise settings text.now result }
 {
     spelling::read(settings, text)

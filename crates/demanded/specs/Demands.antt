@@ -14,8 +14,6 @@ use Rattle.encoding.specs.Encode.{Encodes}
 use Rattle.numbers.specs.declared.Fault.{Fault}
 use Rattle.runlist.specs.declared.Ran.{Ran}
 use Rattle.spelling.specs.Language.{Reads}
-use Rattle.spelling.specs.declared.Printed.{Printed}
-use Rattle.spelling.specs.declared.WordRead.{WordRead}
 use Rattle.demands.specs.Execution.{LengthIsVl, AcceptedExactly, AlwaysInOrder, Always, KeepsIfRefused, SameLengths, StillBytes, CountsToggled, AtMostWritten, FewWritten}
 use Rattle.demands.specs.Execution.{Whenever, ElementsA, ElementsB, ElementsC, ElementsZa, WrittenIs, WheneverV, ClearsAbove, ZElsewhere, ElsewhereZa, WheneverZa, First, Distinct, Exact}
 use Rattle.demands.specs.Sweep.{SweepCloses, UndoAccepts, PartnersAccepted}
@@ -49,8 +47,8 @@ pub record Demand1 : Type 0 where
   pub run_determined : (list z za report : List ℕ)
       → OnlyOne {A = Result Ran Fault × List ℕ × List ℕ × List ℕ} (λ a. RunPromise list z za report a.0 a.1 a.2 a.3)
   -- the answer and the room
-  pub print_determined : (s : Settings) (w : ℕ) (room : List ℕ) → OnlyOne {A = Printed × List ℕ} (λ a. PrintPromise s w room a.0 a.1)
-  pub read_determined : (s : Settings) (text : List ℕ) → OnlyOne {A = WordRead} (ReadPromise s text)
+  pub print_determined : (s : Settings) (w : ℕ) (room : List ℕ) → OnlyOne {A = Result ℕ Refusal × List ℕ} (λ a. PrintPromise s w room a.0 a.1)
+  pub read_determined : (s : Settings) (text : List ℕ) → OnlyOne {A = Result ℕ Refusal} (ReadPromise s text)
   -- the same of the calls for C: the answer, and each array that is lent to be written
   pub c_decode_determined : (settings : List ℕ) (w : ℕ) (fields : List ℕ)
       → OnlyOne {A = ℕ × List ℕ} (λ a. HostDecode settings w fields a.0 a.1)

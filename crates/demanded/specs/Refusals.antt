@@ -21,7 +21,6 @@ use Rattle.runlist.specs.RunList.{refused_at, run_paper, RunPromise}
 use Rattle.spelling.specs.Spell.{spell}
 use Rattle.spelling.specs.Print.{print_paper, PrintPromise}
 use Rattle.spelling.specs.Language.{Spells}
-use Rattle.spelling.specs.declared.Printed.TheVariants as printed
 
 -- the numbers, in the order of the table and of "Further numbers"; then those of request One
 abbrev pub RefusalNumbers : Type 0
@@ -122,4 +121,4 @@ RunLeaves =
 
 -- and `print`
 abbrev pub PrintLeaves : Type 0
-PrintLeaves = (s : Settings) (w : ℕ) (room : List ℕ) (r : Refusal) (room' : List ℕ) → PrintPromise s w room (printed.Refused r) room' → room' ≡ room
+PrintLeaves = (s : Settings) (w : ℕ) (room : List ℕ) (r : Refusal) (room' : List ℕ) → PrintPromise s w room (Err r) room' → room' ≡ room

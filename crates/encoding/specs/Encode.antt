@@ -21,9 +21,3 @@ pub data Encodes (s : Settings) (f : Fields) : ℕ × ℕ → Type 0 where
 -- only contracts use this: a word that has P, or none where no word has
 abbrev pub TheWord : (ℕ → Type 0) → Option ℕ → Type 0
 TheWord P r = MatchOption r ((w : ℕ) → P w → ⊥) P
-
--- the same of one number, for the reader of texts: a word that has P, or 2 ^ 32 where no word has
-pub record TheNumber (P : ℕ → Type 0) (r : ℕ) : Type 0 where
-  pub most : r ≤ 2 ^ 32
-  pub found : r < 2 ^ 32 → P r
-  pub none : 2 ^ 32 ≤ r → (w : ℕ) → P w → ⊥

@@ -16,9 +16,6 @@ use Rattle.runlist.specs.RunList.{Ended}
 use Rattle.numbers.specs.declared.Fault.{Fault}
 use Rattle.runlist.specs.declared.Ran.{Ran}
 use Rattle.spelling.specs.Print.{printed_says}
-use Rattle.spelling.specs.Language.{read_says}
-use Rattle.spelling.specs.declared.Printed.{Printed}
-use Rattle.spelling.specs.declared.WordRead.{WordRead}
 use Rattle.spelling.proofs.Printing.{print_short}
 use Rattle.demands.proofs.Lists.{run_small}
 use Rattle.callinglamp.specs.Promises.{DecodePromise, EncodePromise, PartnerPromise, ExecutePromise, RunPromise, PrintPromise, ReadPromise}
@@ -48,11 +45,11 @@ module _ (settings : List ℕ) (s : Settings) (e : s ≡ settings_of settings) w
   execute_said word z za counts a r z' za' counts' p h =
       rw (← e) (h z' za' ∙ ap (λ (o : Outcome). executed_into o counts) p)
 
-  pub print_said : (word : ℕ) (room : List ℕ) (a : Printed) (r : ℕ) (room' : List ℕ) → PrintPromise s word room a room' → halves r ≡ printed_says a
+  pub print_said : (word : ℕ) (room : List ℕ) (a : Result ℕ Refusal) (r : ℕ) (room' : List ℕ) → PrintPromise s word room a room' → halves r ≡ printed_says a
       → HostPrint settings word room r room'
   print_said word room a r room' p h = rw (← e, h) p
 
-  pub read_said : (text : List ℕ) (a : WordRead) (r : ℕ) → ReadPromise s text a → halves r ≡ read_says a → HostRead settings text r
+  pub read_said : (text : List ℕ) (a : Result ℕ Refusal) (r : ℕ) → ReadPromise s text a → halves r ≡ word_says a → HostRead settings text r
   read_said text a r p h = rw (← e, h) p
 
 module _ (list z za report : List ℕ) where
@@ -69,5 +66,5 @@ module _ (list z za report : List ℕ) where
       omega (arith, ap (λ (o : Ended). o.place) p, (run_small list z za report).0)
 
 -- the length of a text has 32 bits
-pub print_fits : (s : Settings) (word : ℕ) (room : List ℕ) (a : Printed) (room' : List ℕ) → word < 2 ^ 32 → PrintPromise s word room a room' → TextFits a
+pub print_fits : (s : Settings) (word : ℕ) (room : List ℕ) (a : Result ℕ Refusal) (room' : List ℕ) → word < 2 ^ 32 → PrintPromise s word room a room' → TextFits a
 print_fits s word room a room' fits p = omega (arith, ap (λ (x : (ℕ × ℕ) × List ℕ). x.0.1) p, print_short s word room fits)

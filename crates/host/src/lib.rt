@@ -80,7 +80,7 @@ pub fn callinglamp_print(settings: &[u32; 7], word: u32, room: &mut [u8]) -> u64
 pub fn callinglamp_read(settings: &[u32; 7], text: &[u8]) -> u64
     ensures { HostRead settings.now text.now result }
 {
-    packing::was_read(callinglamp::read_word(runlist::settings_of(settings), text))
+    packing::word_answer(callinglamp::read_word(runlist::settings_of(settings), text))
 }
 
 // The version of the library that was linked, for a caller who was compiled with the header of another.

@@ -11,7 +11,6 @@ use Rattle.runlist.specs.RunList.{Ended, run_says}
 use Rattle.numbers.specs.declared.Fault.{Fault}
 use Rattle.runlist.specs.declared.Ran.{Ran}
 use Rattle.spelling.specs.Print.{printed_says}
-use Rattle.spelling.specs.declared.Printed.{Printed}
 
 -- ---- an answer is one number of 64 bits
 
@@ -158,5 +157,5 @@ abbrev pub FitsHalf : Result Ran Fault → Type 0
 FitsHalf answer = MatchResult answer (λ r. r.words < 2 ^ 32) (λ f. f.place < 2 ^ 32)
 
 -- and so has the length of a text
-abbrev pub TextFits : Printed → Type 0
+abbrev pub TextFits : Result ℕ Refusal → Type 0
 TextFits answer = (printed_says answer).1 < 2 ^ 32

@@ -7,13 +7,11 @@ ghost use Rattle.settings.specs.Refused.{refusal_number, word_says};
 ghost use Rattle.words.specs.Numbers.{family_of};
 ghost use Rattle.words.specs.Decode.{decoded_says};
 ghost use Rattle.spelling.specs.Print.{printed_says};
-ghost use Rattle.spelling.specs.Language.{read_says};
 ghost use Rattle.packing.specs.Packing.{halves, field_numbers, are_fields, fields_with, fields_from, decoded_into, ExecutedPut, FitsHalf, RanPut, TextFits};
 
 use numbers::Fault;
 use runlist::Ran;
 use settings::{Refusal, Settings};
-use spelling::{Printed, WordRead};
 use tally::Counts;
 use words::{Family, Fields};
 
@@ -143,7 +141,7 @@ pub fn decoded(answer: Result<Fields, Refusal>, fields: &mut [u32; 12]) -> u64
     }
 }
 
-// The answer of a call that gives a word: of encode, of partner.
+// The answer of a call that gives a word: of encode, of partner, of read.
 pub fn word_answer(answer: Result<u32, Refusal>) -> u64
     ensures { halves result ≡ word_says answer }
 {
@@ -189,21 +187,12 @@ pub fn ran(answer: Result<Ran, Fault>, totals: &mut [u32; 4]) -> u64
     }
 }
 
-pub fn printed(answer: Printed) -> u64
+pub fn printed(answer: Result<usize, Refusal>) -> u64
     requires { TextFits answer }
     ensures { halves result ≡ printed_says answer }
 {
     match answer {
-        Printed::Refused(refusal) => refused(refusal, 0),
-        Printed::Text(length) => of_halves(0, length as u32),
-    }
-}
-
-pub fn was_read(answer: WordRead) -> u64
-    ensures { halves result ≡ read_says answer }
-{
-    match answer {
-        WordRead::Refused(refusal) => refused(refusal, 0),
-        WordRead::Word(word) => of_halves(0, word),
+        Err(refusal) => refused(refusal, 0),
+        Ok(length) => of_halves(0, length as u32),
     }
 }

@@ -23,7 +23,7 @@ use Rattle.words.proofs.Answers.{decodes_exactly}
 use Rattle.spelling.specs.Spell.{spell, longest_text}
 use Rattle.spelling.specs.Print.{put_into, print_after, print_paper, PrintPromise}
 use Rattle.spelling.specs.Language.{Spells, Reads, a_word}
-use Rattle.spelling.specs.declared.Printed.TheVariants.{Text, Refused}
+use Rattle.std.specs.Prelude.{Ok, Err}
 use Rattle.spelling.proofs.Longest.{no_longer}
 use Rattle.spell.specs.Spelled.{all_on, unless_refused, refusal_text, word_text}
 
@@ -76,7 +76,7 @@ number_0 d n room room' e =
     (λ (b : eqb d.0 0 ≡ false) (p : ◌≡◌ {A = End} ((d.0, 0), room) ((0, n), room')). ap (λ (x : End). x.0.0) p)
     e
 
-pub print_wrote : (w n : ℕ) (room room' : List ℕ) → PrintPromise all_on w room (Text n) room' → Wrote (word_text (decode_paper all_on w)) 0 room room' n
+pub print_wrote : (w n : ℕ) (room room' : List ℕ) → PrintPromise all_on w room (Ok n) room' → Wrote (word_text (decode_paper all_on w)) 0 room room' n
 unfolding print_paper
 print_wrote w n room room' e = wrote_text (decode_paper all_on w) n room room' (sym e)
 
@@ -138,7 +138,7 @@ pub reads_word : (line : List ℕ) (w : ℕ) → Spells line w → Reads all_on 
 reads_word line w p = a_word valid w p (on p.fields)
 
 pub print_refused : (w : ℕ) → w < 2 ^ 32 → (r : Refusal) (room room' : List ℕ) → longest_text ≤ length room
-    → PrintPromise all_on w room (Refused r) room' → (room ≡ room') × (refusal_text 3 ≡ word_text (decode_paper all_on w))
+    → PrintPromise all_on w room (Err r) room' → (room ≡ room') × (refusal_text 3 ≡ word_text (decode_paper all_on w))
 unfolding print_paper
 print_refused w lt r room room' h e =
     let f =
@@ -147,7 +147,7 @@ print_refused w lt r room room' h e =
     (f.0, ap refusal_text (sym three ∙ f.2) ∙ f.1)
 
 -- and what it has written is short
-pub print_short : (w : ℕ) → w < 2 ^ 32 → (n : ℕ) (room room' : List ℕ) → PrintPromise all_on w room (Text n) room' → n ≤ longest_text
+pub print_short : (w : ℕ) → w < 2 ^ 32 → (n : ℕ) (room room' : List ℕ) → PrintPromise all_on w room (Ok n) room' → n ≤ longest_text
 unfolding print_paper unless_refused
 print_short w lt n room room' e =
     let z = number_0 (decode_paper all_on w) n room room' (sym e) in

@@ -1,15 +1,16 @@
 -- The number of a line's digits, turn by turn, and what it says of the line. Assumes nothing.
 use Prim.Native.Nat.{ℕ, zero, suc, ◌+◌, ◌*◌, ◌/◌, ◌%◌, ◌<◌, ◌≤◌, ◌^◌}
 use native.Mathlib.Nat.{mod-lt, pow-suc, pow-le-pow_right, lt_of_lt_of_le}
-use native.Mathlib.Numerals.{add-one}
 use native.Mathlib.Omega.{arith}
 use mathlib.Core.Path.{◌≡◌, refl, sym, ap, ◌∙◌}
 use mathlib.Core.Bool.{Bool, true, false, ◌&&◌}
 use mathlib.Core.List.{List}
 use lib.ListN.{length, get_or}
 use borrow.Author.Tests.{eq-eqb, ne_eqb}
-use Rattle.laws.proofs.Tests.{by_cond, cond_yes, cond_no}
-use Rattle.spell.specs.Spelled.{is_hex_digit, digit_of, are_digits, hex_number, is_word, word_of, word_in}
+use Rattle.laws.proofs.Tests.{by_cond, by_lt}
+use Rattle.std.specs.Prelude.{Option, Some, None}
+use lib.Dec.{eqb}
+use Rattle.spell.specs.Spelled.{is_hex_digit, digit_of, are_digits, hex_number, digit_in, is_word, word_of, word_in}
 
 -- ---- the number fits
 
@@ -26,39 +27,65 @@ number_small line k h =
     let lt : 0 < 16 = omega arith in
     lt_of_lt_of_le (number_below line k) (pow-le-pow_right lt most)
 
-word_small : (line : List ℕ) → word_of line < 2 ^ 32
-unfolding word_of
-word_small line = number_below line 8
+-- ---- a byte that is no digit
 
--- ---- the turns
+never : (b : Bool) → (b && false) ≡ false
+never true = refl
+never false = refl
 
-pub one_more : (line : List ℕ) (i word d : ℕ) (all is : Bool) → all ≡ are_digits line i → is ≡ is_hex_digit (get_or line i 0) → word ≡ hex_number line i
-    → d ≡ digit_of (get_or line i 0) → ((all && is) ≡ are_digits line (i + 1)) × (word * 16 + d ≡ hex_number line (i + 1))
-one_more line i word d all is e f g h = rw (add-one i) (cc, cc)
+-- the line is none of digits
+stops : (line : List ℕ) (n i : ℕ) → i < n → is_hex_digit (get_or line i 0) ≡ false → are_digits line n ≡ false
+stops line zero i h e = absurd (omega arith)
+stops line (suc n) i h e =
+    by_lt i n
+    (λ (l : i < n). rw (stops line n i l e))
+    (λ (l : n ≤ i). let q : i ≡ n = omega arith in rw (ap (λ (k : ℕ). is_hex_digit (get_or line k 0)) (sym q) ∙ e) (never (are_digits line n)))
 
-pub not_eight : (line : List ℕ) → (length line ≡ 8 → ⊥) → 2 ^ 32 ≡ word_in line
+pub no_digit : (line : List ℕ) (i : ℕ) → length line ≡ 8 → i < length line → is_hex_digit (get_or line i 0) ≡ false → word_in line ≡ None
 unfolding word_in is_word
-not_eight line h = rw (ne_eqb (length line) 8 h) refl
+no_digit line i l h e = rw (stops line 8 i (omega arith) e, never (eqb (length line) 8))
 
-eight : (line : List ℕ) (i : ℕ) (all : Bool) → length line ≡ 8 → i ≡ 8 → all ≡ are_digits line i → is_word line ≡ all
-unfolding is_word
-eight line i all len end e = rw (eq-eqb (length line) 8 len) (sym (e ∙ ap (are_digits line) end))
+pub not_eight : (line : List ℕ) → (length line ≡ 8 → ⊥) → word_in line ≡ None
+unfolding word_in is_word
+not_eight line h = rw (ne_eqb (length line) 8 h)
 
-pub all_digits : (line : List ℕ) (i word : ℕ) (all : Bool) → length line ≡ 8 → i ≡ 8 → all ≡ are_digits line i → word ≡ hex_number line i
-    → all ≡ true → word ≡ word_in line
-unfolding word_in word_of
-all_digits line i word all len end e f passed = cond_yes _ _ _ _ (eight line i all len end e ∙ passed) (f ∙ ap (hex_number line) end)
+-- ---- the digits that are found
 
-pub not_digits : (line : List ℕ) (i : ℕ) (all : Bool) → length line ≡ 8 → i ≡ 8 → all ≡ are_digits line i → all ≡ false → 2 ^ 32 ≡ word_in line
-unfolding word_in
-not_digits line i all len end e failed = cond_no _ (word_of line) _ _ (eight line i all len end e ∙ failed) refl
+pub digit_small : (c d : ℕ) → digit_in c ≡ Some d → d < 16
+digit_small c d e =
+    by_cond {A = Option ℕ} (is_hex_digit c) (Some (digit_of c)) None (Some d)
+    (λ (_ : is_hex_digit c ≡ true) (p : ◌≡◌ {A = Option ℕ} (Some (digit_of c)) (Some d)). let q : digit_of c ≡ d = cc in let l : digit_of c < 16 = mod-lt (c % 16 + c / 64 * 9) (omega arith) in omega arith)
+    (λ (_ : is_hex_digit c ≡ false) (p : ◌≡◌ {A = Option ℕ} None (Some d)). cc)
+    e
 
--- ---- what the number says of the line
+pub digit_none : (c : ℕ) → digit_in c ≡ None → is_hex_digit c ≡ false
+digit_none c e =
+    by_cond {A = Option ℕ} (is_hex_digit c) (Some (digit_of c)) None None
+    (λ (_ : is_hex_digit c ≡ true) (p : ◌≡◌ {A = Option ℕ} (Some (digit_of c)) None). cc)
+    (λ (b : is_hex_digit c ≡ false) (p : ◌≡◌ {A = Option ℕ} None None). b)
+    e
 
-pub says_word : (line : List ℕ) (w : ℕ) → w ≡ word_in line → (w < 2 ^ 32 → (is_word line ≡ true) × (w ≡ word_of line)) × (2 ^ 32 ≤ w → is_word line ≡ false)
+pub all_digits : (line : List ℕ) (i word : ℕ) → length line ≡ 8 → length line ≤ i → i ≤ length line → are_digits line i ≡ true → word ≡ hex_number line i
+    → word_in line ≡ Some word
+unfolding word_in is_word word_of
+all_digits line i word len end most all e =
+    let q : i ≡ 8 = omega arith in
+    rw (eq-eqb (length line) 8 len, sym (ap (are_digits line) q) ∙ all, e, q)
+
+-- ---- what the answer says of the line
+
+pub says_word : (line : List ℕ) (w : ℕ) → word_in line ≡ Some w → (is_word line ≡ true) × (w ≡ word_of line)
 unfolding word_in
 says_word line w e =
-    by_cond (is_word line) (word_of line) (2 ^ 32) w
-    (λ (b : is_word line ≡ true) (p : word_of line ≡ w). (λ (h : w < 2 ^ 32). (b, sym p), λ (h : 2 ^ 32 ≤ w). absurd (omega (arith, word_small line))))
-    (λ (b : is_word line ≡ false) (p : ◌≡◌ {A = ℕ} (2 ^ 32) w). (λ (h : w < 2 ^ 32). absurd (omega arith), λ (h : 2 ^ 32 ≤ w). b))
-    (sym e)
+    by_cond {A = Option ℕ} (is_word line) (Some (word_of line)) None (Some w)
+    (λ (b : is_word line ≡ true) (p : ◌≡◌ {A = Option ℕ} (Some (word_of line)) (Some w)). (b, cc))
+    (λ (b : is_word line ≡ false) (p : ◌≡◌ {A = Option ℕ} None (Some w)). cc)
+    e
+
+pub says_none : (line : List ℕ) → word_in line ≡ None → is_word line ≡ false
+unfolding word_in
+says_none line e =
+    by_cond {A = Option ℕ} (is_word line) (Some (word_of line)) None None
+    (λ (b : is_word line ≡ true) (p : ◌≡◌ {A = Option ℕ} (Some (word_of line)) None). cc)
+    (λ (b : is_word line ≡ false) (p : ◌≡◌ {A = Option ℕ} None None). b)
+    e

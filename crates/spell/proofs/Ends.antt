@@ -14,7 +14,7 @@ use Rattle.words.specs.Decode.{decode_paper}
 use Rattle.spelling.specs.Spell.{longest_text}
 use Rattle.spelling.specs.Print.{PrintPromise}
 use Rattle.spelling.specs.Language.{Spells, not_text}
-use Rattle.spelling.specs.declared.Printed.TheVariants.{Text, Refused}
+use Rattle.std.specs.Prelude.{Some, Ok, Err}
 use Rattle.spell.specs.Spelled.{all_on, is_word, word_in, unless_refused, word_text, Answers, Answered, IsPrefixLen, to_word, to_text}
 use Rattle.spell.proofs.Answers.{not-refused, valid, reads_word, print_wrote, print_refused, print_short}
 use Rattle.spell.proofs.Digits.{says_word}
@@ -33,22 +33,22 @@ answered line answer room room' r p w = (record { answer = answer; answers = p; 
 
 -- ---- a line that is a word
 
-pub word_answered : (line : List ℕ) (w r : ℕ) (room room' : List ℕ) → w ≡ word_in line → w < 2 ^ 32
+pub word_answered : (line : List ℕ) (w r : ℕ) (room room' : List ℕ) → word_in line ≡ Some w
     → Wrote (word_text (decode_paper all_on w) ++ text "\n") 0 room room' r → Answered line room room' r × IsPrefixLen r room'
-word_answered line w r room room' e lt x =
-    let is = (says_word line w e).0 lt in
+word_answered line w r room room' e x =
+    let is = says_word line w e in
     answered line _ room room' r (to_word is.0) (said (ap (λ (v : ℕ). word_text (decode_paper all_on v) ++ text "\n") is.1) x)
 
 -- behind a text there is room for the line's end
-pub end_inside : (w n : ℕ) (room room' : List ℕ) → w < 2 ^ 32 → longest_text < length room → PrintPromise all_on w room (Text n) room' → n < length room'
+pub end_inside : (w n : ℕ) (room room' : List ℕ) → w < 2 ^ 32 → longest_text < length room → PrintPromise all_on w room (Ok n) room' → n < length room'
 end_inside w n room room' lt long p = omega (arith, print_short w lt n room room' p, (stands (print_wrote w n room room' p)).same_room)
 
-pub word_said : (w n : ℕ) (room room' : List ℕ) → w < 2 ^ 32 → longest_text < length room → PrintPromise all_on w room (Text n) room'
+pub word_said : (w n : ℕ) (room room' : List ℕ) → w < 2 ^ 32 → longest_text < length room → PrintPromise all_on w room (Ok n) room'
     → Wrote (word_text (decode_paper all_on w) ++ text "\n") 0 room (set room' n 10) (n + 1)
 word_said w n room room' lt long p = and_then (print_wrote w n room room' p) (ended room' n (end_inside w n room room' lt long p))
 
 pub word-refused : (w : ℕ) → w < 2 ^ 32 → (refusal : Refusal) (r : ℕ) (room room' room'' : List ℕ) → longest_text ≤ length room
-    → PrintPromise all_on w room (Refused refusal) room' → Wrote (text "refused 3\n") 0 room' room'' r
+    → PrintPromise all_on w room (Err refusal) room' → Wrote (text "refused 3\n") 0 room' room'' r
     → Wrote (word_text (decode_paper all_on w) ++ text "\n") 0 room room'' r
 unfolding decimal decimal_up_to
 word-refused w lt refusal r room room' room'' long p x =

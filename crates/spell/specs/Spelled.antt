@@ -1,6 +1,6 @@
 -- What the program `spell` prints for a line, which is a list of bytes without its line end: "a line of eight hexadecimal digits becomes the word's text, a
 -- line of text becomes the word's eight upper-case digits, any other line becomes `refused N` (with N of the call); all features are on".
-use Rattle.std.specs.Prelude.{ℕ, zero, suc, ◌+◌, ◌*◌, ◌/◌, ◌%◌, ◌^◌, ◌≡◌, ◌≤◌, Bool, true, false, ◌&&◌, ◌||◌, cond, List, [], ◌∷◌, ◌++◌, eqb, leb, length, take, get_or}
+use Rattle.std.specs.Prelude.{ℕ, zero, suc, ◌+◌, ◌*◌, ◌/◌, ◌%◌, ◌≡◌, ◌≤◌, Bool, true, false, ◌&&◌, ◌||◌, cond, List, [], ◌∷◌, ◌++◌, eqb, leb, length, take, get_or, Option, Some, None}
 use Prim.Native.String.{String}
 use Rattle.pieces.specs.Pieces.{text, decimal, hex8, Wrote}
 use Rattle.settings.specs.declared.Settings.{Settings}
@@ -72,6 +72,10 @@ pub record Answered (line room room' : List ℕ) (r : ℕ) : Type 0 where
 abbrev pub IsPrefixLen : ℕ → List ℕ → Type 0
 IsPrefixLen n xs = (n ≤ length xs) × (n ≡ length (take n xs))
 
--- one number for a word or for none: the word of a line, or 2 ^ 32
-unfoldable pub word_in : List ℕ → ℕ
-word_in line = cond (is_word line) (word_of line) (2 ^ 32)
+-- the value of a byte that is a digit
+abbrev pub digit_in : ℕ → Option ℕ
+digit_in c = cond (is_hex_digit c) (Some (digit_of c)) None
+
+-- the word of a line that is one
+unfoldable pub word_in : List ℕ → Option ℕ
+word_in line = cond (is_word line) (Some (word_of line)) None

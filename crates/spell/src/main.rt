@@ -5,10 +5,9 @@ ghost use Rattle.std.specs.Prelude.{◌≡◌, false, ◌++◌, ◌+◌, ◌≤�
 ghost use Rattle.pieces.specs.Pieces.{text, Wrote};
 ghost use Rattle.words.specs.Decode.{decode_paper};
 ghost use Rattle.spelling.specs.Spell.{longest_text};
-ghost use Rattle.spell.specs.Spelled.{all_on, is_hex_digit, digit_of, is_word, word_in, word_text, Answered, IsPrefixLen};
+ghost use Rattle.spell.specs.Spelled.{all_on, digit_in, is_word, word_in, word_text, Answered, IsPrefixLen};
 
 use settings::{Features, Modes, Settings};
-use spelling::Printed;
 use std::io;
 use std::io::Read;
 
@@ -25,44 +24,25 @@ fn all_on() -> Settings
 
 // ---- a line of eight hexadecimal digits
 
-fn is_digit(byte: u8) -> bool
-    ensures { result ≡ is_hex_digit byte }
+// The value of a hexadecimal digit.
+fn digit(byte: u8) -> Option<u32>
+    ensures { result ≡ digit_in byte }
 {
-    ((b'0' <= byte) & (byte <= b'9'))
-        | ((b'A' <= byte) & (byte <= b'F'))
-        | ((b'a' <= byte) & (byte <= b'f'))
+    char::from(byte).to_digit(16)
 }
-
-fn digit_of(byte: u8) -> u64
-    ensures { (result ≡ digit_of byte) × (result < 16) }
-{
-    let code = byte as u64;
-    (code % 16 + code / 64 * 9) % 16
-}
-
-// Below 2 ^ 32 is a word, and from there on there is none.
-const NO_WORD: u64 = 4294967296;
 
 // The word that a line of eight digits says.
-fn word_in(line: &[u8]) -> u64
+fn word_in(line: &[u8]) -> Option<u32>
     ensures { result ≡ word_in line.now }
 {
     if line.len() != 8 {
-        return NO_WORD;
+        return None;
     }
-    let mut all = true;
     let mut word = 0;
-    let mut i = 0;
-    while i < 8 {
-        let byte = line[i];
-        all = all & is_digit(byte);
-        word = word * 16 + digit_of(byte);
-        i += 1;
+    for byte in line {
+        word = word * 16 + digit(*byte)?;
     }
-    if all {
-        return word;
-    }
-    NO_WORD
+    Some(word)
 }
 
 // ---- the answer to a line
@@ -82,11 +62,11 @@ fn put_text_of(out: &mut [u8], word: u32) -> usize
     ensures { Wrote (word_text (decode_paper all_on word) ++ text "\n") 0 out.old out.new result }
 {
     match spelling::print(all_on(), word, out) {
-        Printed::Text(n) => {
+        Ok(n) => {
             out[n] = b'\n';
             n + 1
         }
-        Printed::Refused(_) => pieces::put_text(out, 0, b"refused 3\n"),
+        Err(_) => pieces::put_text(out, 0, b"refused 3\n"),
     }
 }
 
@@ -95,13 +75,14 @@ fn put_word_of(out: &mut [u8], line: &[u8]) -> usize
     requires { 64 ≤ length out.old }
     ensures { (is_word line.now ≡ false → Answered line.now out.old out.new result) × IsPrefixLen result out.new }
 {
-    let word = spelling::word_of(line);
-    if word < NO_WORD {
-        let end = pieces::put_digits(out, 0, word, 16, 8);
-        out[end] = b'\n';
-        return end + 1;
+    match spelling::word_of(line) {
+        Some(word) => {
+            let end = pieces::put_digits(out, 0, u64::from(word), 16, 8);
+            out[end] = b'\n';
+            end + 1
+        }
+        None => pieces::put_text(out, 0, b"refused 11\n"),
     }
-    pieces::put_text(out, 0, b"refused 11\n")
 }
 
 // The answer to a line, with the line's end.
@@ -110,11 +91,10 @@ fn put_answer(out: &mut [u8], line: &[u8]) -> usize
     ensures answered { Answered line.now out.old out.new result }
     ensures prefix_len { IsPrefixLen result out.new }
 {
-    let word = word_in(line);
-    if word < NO_WORD {
-        return put_text_of(out, word as u32);
+    match word_in(line) {
+        Some(word) => put_text_of(out, word),
+        None => put_word_of(out, line),
     }
-    put_word_of(out, line)
 }
 
 // ---- lines in, answers out

@@ -1,5 +1,4 @@
 pub mod Arms
-pub mod Placed
 pub mod Putting
 pub mod Back
 pub mod Reading

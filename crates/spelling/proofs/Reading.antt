@@ -4,7 +4,10 @@ use native.Mathlib.Omega.{arith}
 use mathlib.Core.Path.{◌≡◌, refl, sym, ap, ◌∙◌}
 use mathlib.Core.Bool.{Bool, true, false, cond}
 use mathlib.Core.List.{List}
+use Rattle.std.specs.Prelude.{Option, Some, None}
+use Rattle.std.specs.Bool.{then_some}
 use lib.Dec.{eqb, ltb}
+use lib.ListN.{length}
 use Rattle.laws.proofs.Tests.{never_both, by_lt, by_cond}
 use Rattle.syntax.specs.Syntax.{fill, TwoDigits}
 use Rattle.syntax.specs.Scan.{fits, taken}
@@ -17,7 +20,7 @@ use Rattle.words.specs.declared.Family.{Family}
 use Rattle.words.specs.declared.Family.TheVariants.{ByElement, Vector, Saturating, LongLong, Long}
 use Rattle.words.specs.declared.Fields.{Fields}
 use Rattle.words.proofs.Table.{◌then◌}
-use Rattle.encoding.specs.Encode.{Has}
+use Rattle.encoding.specs.Encode.{Has, TheWord}
 use Rattle.spelling.specs.Rows.{syntax_at}
 use Rattle.spelling.specs.Spell.{letter_values, row_for, row_by, spell}
 use Rattle.spelling.specs.Candidate.{candidate_at}
@@ -54,6 +57,11 @@ row_by_below short Long lane part = small_choice short 17 14 (omega arith) (omeg
 pub row_below : (short : Bool) (f : Fields) → row_for short f < 18
 unfolding row_for
 row_below short f = row_by_below short f.family f.lane f.part
+
+-- no row has more than 56 bytes
+pub row_short : (k : ℕ) → k < 18 → length (syntax_at k) ≤ 56
+unfolding syntax_at
+row_short = each_below (λ (k : ℕ). length (syntax_at k) ≤ 56) 18 (omega arith)
 
 -- ---- a row that is tried
 
@@ -97,6 +105,22 @@ candidate_spells k t f w h a e has =
 -- where it is not
 pub other_text : (t : List ℕ) (k : ℕ) (f : Fields) → f ≡ candidate_at k t → (t ≡ fill (letter_values f) (syntax_at k) → ⊥) → (w : ℕ) → SpellsBy k t w → ⊥
 other_text t k f a n w p = n (spelled_text p ∙ ap (λ (g : Fields). fill (letter_values g) (syntax_at k)) (sym a))
+
+-- what the comparison answers
+pub then_theirs : (k : ℕ) (t : List ℕ) (f : Fields) (w : ℕ) (b : Bool) (r : Option ℕ) → k < 18 → f ≡ candidate_at k t → Has f w
+    → (b ≡ true → t ≡ fill (letter_values f) (syntax_at k)) → (t ≡ fill (letter_values f) (syntax_at k) → b ≡ true) → r ≡ then_some b w
+    → TheWord (SpellsBy k t) r
+then_theirs k t f w true r h a has same shows e = rw e (candidate_spells k t f w h a (same refl) has)
+then_theirs k t f w false r h a has same shows e = rw e (other_text t k f a (λ (q : t ≡ fill (letter_values f) (syntax_at k)). never_both false (shows q) refl))
+
+-- what a scan found, and that it found nothing
+pub found_so : {A : Type 0} (b : Bool) (x y : A) → ◌≡◌ {A = Option A} (Some x) (cond b (Some y) None) → x ≡ y
+found_so true x y e = cc
+found_so false x y e = cc
+
+pub none_so : {A : Type 0} (b : Bool) (y : A) → ◌≡◌ {A = Option A} None (cond b (Some y) None) → b ≡ false
+none_so true y e = cc
+none_so false y e = refl
 
 -- one row more was tried
 pub one_tried : (t : List ℕ) (k : ℕ) → ((j : ℕ) → j < k → (w : ℕ) → SpellsBy j t w → ⊥) → ((w : ℕ) → SpellsBy k t w → ⊥)

@@ -11,6 +11,9 @@ use Rattle.pieces.specs.Pieces.{text}
 use Rattle.syntax.specs.Syntax.{fill, TwoDigits}
 use Rattle.syntax.specs.Scan.{clear}
 use Rattle.syntax.proofs.Laws.{apart, no_text_in_both}
+use Rattle.std.specs.Prelude.{Result}
+use Rattle.settings.specs.Refused.{word_says}
+use Rattle.settings.specs.declared.Refusal.{Refusal}
 use Rattle.settings.specs.declared.Settings.{Settings}
 use Rattle.words.specs.Says.{As}
 use Rattle.words.specs.Decode.{enables}
@@ -19,14 +22,10 @@ use Rattle.encoding.proofs.Theorems.{one_word}
 use Rattle.spelling.specs.Rows.{syntaxes, nth, syntax_at}
 use Rattle.spelling.specs.Spell.{letter_values, row_for, spell}
 use Rattle.spelling.specs.Candidate.{candidate_at}
-use Rattle.spelling.specs.Print.{printed_says, PrintPromise}
-use Rattle.spelling.specs.Language.{Spells, Reads, read_says, ReadPromise, bad_settings, not_text, not_enabled, a_word}
+use Rattle.spelling.specs.Print.{PrintPromise}
+use Rattle.spelling.specs.Language.{Spells, Reads, ReadPromise, bad_settings, not_text, not_enabled, a_word}
 use Rattle.spelling.specs.Theorems.{OneReading, PrintsPreferred, PrintAfterRead, ReadAfterPrint}
-use Rattle.spelling.specs.declared.Printed.{Printed}
-use Rattle.spelling.specs.declared.Printed.TheVariants.{Text, Refused}
-use Rattle.spelling.specs.declared.WordRead.{WordRead}
-use Rattle.spelling.specs.declared.WordRead.TheVariants as read
-use Rattle.settings.proofs.Refusals.{refused_not_0, refused_known}
+use Rattle.settings.proofs.Refusals.{word_known}
 use Rattle.spelling.proofs.Back.{clear_at, figures, two_digits, read_back}
 use Rattle.spelling.proofs.Reading.{row_below}
 use Rattle.spelling.proofs.Putting.{print_word}
@@ -84,19 +83,6 @@ pub one_reading : OneReading
 one_reading t w v p q =
     one_word q.fields w v (record { fits = p.fits; says = p.says ∙ ap As (same-fields p q) }) (record { fits = q.fits; says = q.says })
 
--- an answer is known by what it says
-answers_same : (r q : WordRead) → read_says r ≡ read_says q → r ≡ q
-answers_same (read.Word w) (read.Word v) e = ap read.Word (ap (λ (a : ℕ × ℕ). a.1) e)
-answers_same (read.Word w) (read.Refused q) e = absurd (refused_not_0 q 0 w (sym e))
-answers_same (read.Refused r) (read.Word v) e = absurd (refused_not_0 r 0 v e)
-answers_same (read.Refused r) (read.Refused q) e = ap read.Refused (refused_known r q 0 0 e)
-
-prints_same : (r q : Printed) → printed_says r ≡ printed_says q → r ≡ q
-prints_same (Text n) (Text m) e = ap Text (ap (λ (a : ℕ × ℕ). a.1) e)
-prints_same (Text n) (Refused q) e = absurd (refused_not_0 q 0 n (sym e))
-prints_same (Refused r) (Text m) e = absurd (refused_not_0 r 0 m e)
-prints_same (Refused r) (Refused q) e = ap Refused (refused_known r q 0 0 e)
-
 -- any two answers that read's promise allows are equal
 pub reads_unique : (s : Settings) (t : List ℕ) (a b : ℕ × ℕ) → Reads s t a → Reads s t b → a ≡ b
 reads_unique s t a b (bad_settings p) (bad_settings q) = refl
@@ -117,15 +103,15 @@ reads_unique s t a b (a_word _ v q e) (not_enabled _ w p d) = absurd (never_both
 reads_unique s t a b (a_word _ v p _) (a_word _ w q _) = ap (λ (x : ℕ). (0, x)) (one_reading _ _ _ p q)
 
 -- and so does the answer that the code gives
-pub read_unique : (s : Settings) (t : List ℕ) (r q : WordRead) → ReadPromise s t r → ReadPromise s t q → r ≡ q
-read_unique s t r q a b = answers_same r q (reads_unique s t (read_says r) (read_says q) a b)
+pub read_unique : (s : Settings) (t : List ℕ) (r q : Result ℕ Refusal) → ReadPromise s t r → ReadPromise s t q → r ≡ q
+read_unique s t r q a b = word_known r q (reads_unique s t (word_says r) (word_says q) a b)
 
 -- any two answers that print's promise allows are equal, and so is the room
-pub print_unique : (s : Settings) (w : ℕ) (room : List ℕ) (r q : Printed) (room₁ room₂ : List ℕ) → PrintPromise s w room r room₁ → PrintPromise s w room q room₂
+pub print_unique : (s : Settings) (w : ℕ) (room : List ℕ) (r q : Result ℕ Refusal) (room₁ room₂ : List ℕ) → PrintPromise s w room r room₁ → PrintPromise s w room q room₂
     → (r ≡ q) × (room₁ ≡ room₂)
 print_unique s w room r q room₁ room₂ a b =
     let e = a ∙ sym b in
-    (prints_same r q (ap (λ (x : (ℕ × ℕ) × List ℕ). x.0) e), ap (λ (x : (ℕ × ℕ) × List ℕ). x.1) e)
+    (word_known r q (ap (λ (x : (ℕ × ℕ) × List ℕ). x.0) e), ap (λ (x : (ℕ × ℕ) × List ℕ). x.1) e)
 
 -- ---- print and read
 

@@ -1,17 +1,15 @@
 -- Request One: what `print` answers, and what it leaves in the room. "printing tests 1, 3, then 12 where the room is shorter than the text"
-use Rattle.std.specs.Prelude.{ℕ, ◌≡◌, false, cond, List, ◌++◌, eqb, leb, length, drop}
-use Rattle.settings.specs.Refused.{refusal_number}
+use Rattle.std.specs.Prelude.{ℕ, ◌≡◌, false, cond, List, ◌++◌, eqb, leb, length, drop, Result}
+use Rattle.settings.specs.Refused.{word_says}
+use Rattle.settings.specs.declared.Refusal.{Refusal}
 use Rattle.settings.specs.declared.Settings.{Settings}
 use Rattle.words.specs.Decode.{decode_paper}
 use Rattle.words.specs.declared.Fields.{Fields}
 use Rattle.spelling.specs.Spell.{spell}
-use Rattle.spelling.specs.declared.Printed.{Printed}
-use Rattle.spelling.specs.declared.Printed.TheVariants.{Text, Refused}
 
--- the number and the length of an answer
-abbrev pub printed_says : Printed → ℕ × ℕ
-printed_says (Text n) = (0, n)
-printed_says (Refused r) = (refusal_number r, 0)
+-- the number and the length of an answer, said as those are that give a word
+abbrev pub printed_says : Result ℕ Refusal → ℕ × ℕ
+printed_says = word_says
 
 -- a text put into room: number, length, and the room at the end. "an answer written into lent room comes with its length, and the room past it stays"
 abbrev pub put_into : List ℕ → List ℕ → (ℕ × ℕ) × List ℕ
@@ -25,5 +23,5 @@ unfoldable pub print_paper : Settings → ℕ → List ℕ → (ℕ × ℕ) × L
 print_paper s w room = print_after (decode_paper s w) room
 
 -- what `print` promises of its answer and of the room
-abbrev pub PrintPromise : Settings → ℕ → List ℕ → Printed → List ℕ → Type 0
+abbrev pub PrintPromise : Settings → ℕ → List ℕ → Result ℕ Refusal → List ℕ → Type 0
 PrintPromise s w room r room' = (printed_says r, room') ≡ print_paper s w room

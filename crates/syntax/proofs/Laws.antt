@@ -5,10 +5,10 @@ use native.Mathlib.Omega.{arith}
 use mathlib.Core.Path.{◌≡◌, refl, sym, ap, ◌∙◌}
 use mathlib.Core.Bool.{Bool, true, false, not, ◌&&◌, ◌||◌, cond}
 use mathlib.Core.List.{List, [], ◌∷◌, ◌++◌, append_assoc}
-use lib.Dec.{eqb, ltb}
+use lib.Dec.{eqb, leb}
 use lib.ListN.{length, get_or, set, drop, length-set}
 use lib.Seq.{get_or-set_same, get_or-set_other}
-use borrow.Author.Tests.{lt-ltb, ltb-true, eqb-true, eqb-false, eq-eqb, ne_eqb, not-true}
+use borrow.Author.Tests.{lt-ltb, le-leb, leb-true, eqb-true, eqb-false, eq-eqb, ne_eqb, not-true}
 use Rattle.laws.proofs.Tests.{both, either, never_both, by_lt}
 use Rattle.pieces.specs.Pieces.{glyph_of, decimal}
 use Rattle.pieces.proofs.Digits.{decimal_one, decimal_more, by_tens}
@@ -25,46 +25,42 @@ pub by_test : {P : Type 0} (b : Bool) → (b ≡ true → P) → (b ≡ false �
 by_test true k l = k refl
 by_test false k l = l refl
 
-pub number_range : (c : ℕ) → is_number c ≡ true → (64 < c) × (c < 83)
-number_range c e = let b = both (ltb 64 c) (ltb c 83) e in (ltb-true _ _ b.0, ltb-true _ _ b.1)
+pub number_range : (c : ℕ) → is_number c ≡ true → (65 ≤ c) × (c ≤ 82)
+number_range c e = let b = both (leb 65 c) (leb c 82) e in (leb-true _ _ b.0, leb-true _ _ b.1)
 
-pub byte_range : (c : ℕ) → is_byte c ≡ true → (82 < c) × (c < 91)
-byte_range c e = let b = both (ltb 82 c) (ltb c 91) e in (ltb-true _ _ b.0, ltb-true _ _ b.1)
+pub byte_range : (c : ℕ) → is_byte c ≡ true → (83 ≤ c) × (c ≤ 90)
+byte_range c e = let b = both (leb 83 c) (leb c 90) e in (leb-true _ _ b.0, leb-true _ _ b.1)
 
-pub letter_range : (c : ℕ) → is_letter c ≡ true → (64 < c) × (c < 91)
-letter_range c e = let b = both (ltb 64 c) (ltb c 91) e in (ltb-true _ _ b.0, ltb-true _ _ b.1)
+pub letter_range : (c : ℕ) → is_letter c ≡ true → (65 ≤ c) × (c ≤ 90)
+letter_range c e = let b = both (leb 65 c) (leb c 90) e in (leb-true _ _ b.0, leb-true _ _ b.1)
 
 -- a letter is a number's or a byte's, and no other byte is
 pub letter_byte : (c : ℕ) → is_letter c ≡ true → is_number c ≡ false → is_byte c ≡ true
 letter_byte c m n =
     let r = letter_range c m in
     by_lt 82 c
-    (λ (h : 82 < c). rw (lt-ltb 82 c h, lt-ltb c 91 r.1))
+    (λ (h : 82 < c). let g : 83 ≤ c = omega arith in rw (le-leb 83 c g, le-leb c 90 r.1))
     (λ (h : c ≤ 82).
-    let g : c < 83 = omega arith in
-    let k : is_number c ≡ true = rw (lt-ltb 64 c r.0, lt-ltb c 83 g) in
+    let k : is_number c ≡ true = rw (le-leb 65 c r.0, le-leb c 82 h) in
     absurd (never_both (is_number c) k n))
 
 pub number_letter : (c : ℕ) → is_number c ≡ true → is_letter c ≡ true
 number_letter c n =
     let r = number_range c n in
-    let g : c < 91 = omega arith in
-    rw (lt-ltb 64 c r.0, lt-ltb c 91 g)
+    let g : c ≤ 90 = omega arith in
+    rw (le-leb 65 c r.0, le-leb c 90 g)
 
 byte_letter : (c : ℕ) → is_byte c ≡ true → is_letter c ≡ true
 byte_letter c b =
     let r = byte_range c b in
-    let g : 64 < c = omega arith in
-    rw (lt-ltb 64 c g, lt-ltb c 91 r.1)
+    let g : 65 ≤ c = omega arith in
+    rw (le-leb 65 c g, le-leb c 90 r.1)
 
 pub no_letter : (c : ℕ) → is_letter c ≡ false → (is_number c ≡ false) × (is_byte c ≡ false)
 no_letter c m = (
   by_test (is_number c) (λ n. absurd (never_both (is_letter c) (number_letter c n) m)) (λ n. n),
   by_test (is_byte c) (λ b. absurd (never_both (is_letter c) (byte_letter c b) m)) (λ b. b),
 )
-
-pub digit_range : (c : ℕ) → is_digit c ≡ true → (47 < c) × (c < 58)
-digit_range c e = let b = both (ltb 47 c) (ltb c 58) e in (ltb-true _ _ b.0, ltb-true _ _ b.1)
 
 -- ---- digits
 
@@ -73,9 +69,9 @@ glyph_is d h = rw (lt-ltb d 10 h)
 
 figure_is : (d : ℕ) → d < 10 → is_digit (48 + d) ≡ true
 figure_is d h =
-    let low : 47 < 48 + d = omega arith in
-    let high : 48 + d < 58 = omega arith in
-    rw (lt-ltb 47 (48 + d) low, lt-ltb (48 + d) 58 high)
+    let low : 48 ≤ 48 + d = omega arith in
+    let high : 48 + d ≤ 57 = omega arith in
+    rw (le-leb 48 (48 + d) low, le-leb (48 + d) 57 high)
 
 glyph_digit : (d : ℕ) → d < 10 → is_digit (glyph_of d) ≡ true
 glyph_digit d h = rw (glyph_is d h) (figure_is d h)

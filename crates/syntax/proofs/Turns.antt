@@ -6,11 +6,10 @@ use native.Mathlib.Omega.{arith}
 use mathlib.Core.Path.{◌≡◌, refl, sym, ap, ap₂, ◌∙◌}
 use mathlib.Core.Bool.{true, false, cond}
 use mathlib.Core.List.{List, [], ◌∷◌, ◌++◌, append_assoc, append-nil}
-use lib.ListN.{length, get_or, set, take, drop, length-set, drop_of_length-le}
-use lib.Seq.{take-suc, get_or-drop, drop-cons, drop-drop, set_split, append_snoc}
+use lib.ListN.{length, get_or, set, take, drop, drop_of_length-le}
+use lib.Seq.{take-suc, get_or-drop, drop-cons, drop-drop}
 use borrow.Author.Tests.{eq-eqb, ne_eqb}
-use Rattle.pieces.specs.Pieces.{decimal, Wrote}
-use Rattle.pieces.proofs.Pieces.{and_then, said, nothing}
+use Rattle.pieces.specs.Pieces.{decimal}
 use Rattle.syntax.specs.Syntax.{is_number, value_in, says, fill, TwoDigits}
 use Rattle.syntax.specs.Scan.{says_of, is_letter, value_of, passes_of, after, fits_of, fits_first, fits, noted_of, noted, taken}
 use Rattle.syntax.proofs.Laws.{by_test, letter_byte, number_letter, no_letter, one_figure, two_figures}
@@ -29,24 +28,14 @@ fill_one vs c = append-nil (says vs c)
 fill_more : (vs row : List ℕ) (i : ℕ) → i < length row → fill vs (take i row) ++ says vs (get_or row i 0) ≡ fill vs (take (i + 1) row)
 fill_more vs row i h = rw (add-one, take-suc row i 0 h, fill_append, fill_one)
 
-pub one_more : (vs row : List ℕ) (i : ℕ) {r q : ℕ} {out₀ out₁ out₂ : List ℕ} → i < length row → Wrote (fill vs (take i row)) 0 out₀ out₁ r
-    → Wrote (says vs (get_or row i 0)) r out₁ out₂ q → Wrote (fill vs (take (i + 1) row)) 0 out₀ out₂ q
-one_more vs row i h x y = said (fill_more vs row i h) (and_then x y)
+pub one_more : (vs row start : List ℕ) (i : ℕ) {before after : List ℕ} → i < length row → before ≡ start ++ fill vs (take i row)
+    → after ≡ before ++ says vs (get_or row i 0) → after ≡ start ++ fill vs (take (i + 1) row)
+one_more vs row start i h x y =
+    y ∙ ap (λ (t : List ℕ). t ++ says vs (get_or row i 0)) x ∙ append_assoc start _ _ ∙ ap (λ (t : List ℕ). start ++ t) (fill_more vs row i h)
 
-pub one_byte : (out : List ℕ) (at b : ℕ) → at < length out → Wrote (b ∷ []) at out (set out at b) (at + 1)
-one_byte out at b h = record { ends = refl; fits = omega arith; bytes = set_split out at b h ∙ ap (λ (n : ℕ). take at out ++ b ∷ drop n out) (sym (add-one at)) ∙ sym (append_snoc (take at out) b (drop (at + 1) out)) }
-
-pub two_bytes : (out : List ℕ) (at a b : ℕ) → at + 2 ≤ length out → Wrote ((a ∷ []) ++ (b ∷ [])) at out (set (set out at a) (at + 1) b) (at + 2)
-two_bytes out at a b h =
-    let l = length-set out at a in
-    let e : at + 1 + 1 ≡ at + 2 = omega arith in
-    rw e at (and_then (one_byte out at a (omega arith)) (one_byte (set out at a) (at + 1) b (omega (arith, l))))
-
--- ---- nothing is written yet
-
-pub none : (vs row out : List ℕ) → Wrote (fill vs (take 0 row)) 0 out out 0
+pub nothing_yet : (vs start : List ℕ) → start ≡ start ++ fill vs []
 unfolding fill
-none vs row out = nothing 0 out (omega arith)
+nothing_yet vs start = sym (append-nil start)
 
 -- ---- what a byte of a row says, by the value of a letter or the byte itself
 
@@ -67,16 +56,20 @@ says_of_lem vs c v e =
 
 -- ---- a byte of a row is written
 
-pub puts_byte : (c v at : ℕ) (out : List ℕ) → at + 2 ≤ length out → is_number c ≡ false → Wrote (says_of c v) at out (set out at v) (at + 1) × (at + 1 ≤ at + 2)
-puts_byte c v at out h n = (said (rw n) (one_byte out at v (omega arith)), omega arith)
+pub says_byte : (c v : ℕ) → is_number c ≡ false → v ∷ [] ≡ says_of c v
+says_byte c v n = rw n
 
-pub puts_one : (c v at : ℕ) (out : List ℕ) → at + 2 ≤ length out → is_number c ≡ true → v < 10
-    → Wrote (says_of c v) at out (set out at (48 + v)) (at + 1) × (at + 1 ≤ at + 2)
-puts_one c v at out h n l = (said (one_figure v l ∙ rw n) (one_byte out at (48 + v) (omega arith)), omega arith)
+pub says_one : (c v : ℕ) → is_number c ≡ true → v < 10 → (48 + v) ∷ [] ≡ says_of c v
+says_one c v n l = one_figure v l ∙ rw n
 
-pub puts_two : (c v at : ℕ) (out : List ℕ) → at + 2 ≤ length out → is_number c ≡ true → 10 ≤ v → v < 100
-    → Wrote (says_of c v) at out (set (set out at (48 + v / 10)) (at + 1) (48 + v % 10)) (at + 2) × (at + 2 ≤ at + 2)
-puts_two c v at out h n l s = (said (two_figures v l s ∙ rw n) (two_bytes out at _ _ h), omega arith)
+pub says_two : (c v : ℕ) → is_number c ≡ true → 10 ≤ v → v < 100 → ((48 + v / 10) ∷ []) ++ ((48 + v % 10) ∷ []) ≡ says_of c v
+says_two c v n l s = two_figures v l s ∙ rw n
+
+-- one byte behind another
+pub both_said : (start : List ℕ) (x y : ℕ) {said once twice : List ℕ} → once ≡ start ++ x ∷ [] → twice ≡ once ++ y ∷ []
+    → (x ∷ []) ++ (y ∷ []) ≡ said → twice ≡ start ++ said
+both_said start x y p q e =
+    q ∙ ap (λ (t : List ℕ). t ++ y ∷ []) p ∙ append_assoc start (x ∷ []) (y ∷ []) ∙ ap (λ (t : List ℕ). start ++ t) e
 
 -- ---- a row is compared, and its values are taken
 

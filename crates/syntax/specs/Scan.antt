@@ -1,6 +1,7 @@
 -- What only the code and the proofs need: what a byte of a row says by its value, the values that a text can have by a row, and the test of a row by
 -- which a text of it is read back.
-use Rattle.std.specs.Prelude.{ℕ, ◌+◌, ◌-◌, ◌*◌, Bool, true, false, not, ◌&&◌, ◌||◌, cond, List, [], ◌∷◌, eqb, ltb, get_or, set, drop}
+use Rattle.std.specs.Prelude.{ℕ, ◌+◌, ◌-◌, ◌*◌, Bool, true, false, not, ◌&&◌, ◌||◌, cond, List, [], ◌∷◌, eqb, get_or, set, drop}
+use Rattle.std.specs.Char.{is_ascii_digit, is_ascii_uppercase}
 use Rattle.pieces.specs.Pieces.{decimal}
 use Rattle.syntax.specs.Syntax.{is_number, is_byte}
 
@@ -8,12 +9,13 @@ use Rattle.syntax.specs.Syntax.{is_number, is_byte}
 abbrev pub says_of : ℕ → ℕ → List ℕ
 says_of c v = cond (is_number c) (decimal v) (v ∷ [])
 
+-- `0` to `9`
 abbrev pub is_digit : ℕ → Bool
-is_digit c = ltb 47 c && ltb c 58
+is_digit = is_ascii_digit
 
 -- `A` to `Z`
 abbrev pub is_letter : ℕ → Bool
-is_letter c = ltb 64 c && ltb c 91
+is_letter = is_ascii_uppercase
 
 -- ---- the first two bytes of a text
 

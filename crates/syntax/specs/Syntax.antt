@@ -1,15 +1,15 @@
 -- A syntax is a row of text. A capital letter stands for a value: A to R for a number in decimal digits, S to Z for one byte. Every other byte stands
 -- for itself. The values are 26, one for each letter.
-use Rattle.std.specs.Prelude.{ℕ, ◌-◌, ◌<◌, ◌≡◌, Bool, true, ◌&&◌, cond, List, [], ◌∷◌, ◌++◌, ltb, get_or}
+use Rattle.std.specs.Prelude.{ℕ, ◌-◌, ◌<◌, ◌≡◌, Bool, true, ◌&&◌, cond, List, [], ◌∷◌, ◌++◌, leb, get_or}
 use Rattle.pieces.specs.Pieces.{decimal}
 
 -- `A` to `R`
 abbrev pub is_number : ℕ → Bool
-is_number c = ltb 64 c && ltb c 83
+is_number c = leb 65 c && leb c 82
 
 -- `S` to `Z`
 abbrev pub is_byte : ℕ → Bool
-is_byte c = ltb 82 c && ltb c 91
+is_byte c = leb 83 c && leb c 90
 
 -- the value of a letter
 abbrev pub value_in : List ℕ → ℕ → ℕ

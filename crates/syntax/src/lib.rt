@@ -1,27 +1,18 @@
 // A row of a syntax, written with values and read for them. What a row says is in specs/.
 #![tactic(auto)]
 
-ghost use Rattle.std.specs.Prelude.{◌≡◌, true, cond, ◌+◌, ◌*◌, ◌≤◌, ◌<◌, length, get_or};
-ghost use Rattle.pieces.specs.Pieces.{Wrote};
+ghost use Rattle.std.specs.Prelude.{◌≡◌, true, cond, ◌+◌, ◌*◌, ◌≤◌, ◌<◌, ◌++◌, length, get_or, replicate, Some, None};
+ghost use Rattle.std.specs.Char.{is_ascii_uppercase};
+ghost use Rattle.arrayvec.specs.ArrayVec.{array_vec_len};
 ghost use Rattle.syntax.specs.Syntax.{is_number, value_in, fill, TwoDigits, OneByte};
-ghost use Rattle.syntax.specs.Scan.{says_of, is_digit, is_letter, value_of, passes_of, fits, taken};
+ghost use Rattle.syntax.specs.Scan.{says_of, value_of, passes_of, fits, taken};
+
+use arrayvec::ArrayVec;
 
 fn is_number(c: u8) -> bool
     ensures { result ≡ is_number c }
 {
-    (64 < c) & (c < 83)
-}
-
-fn is_letter(c: u8) -> bool
-    ensures { result ≡ is_letter c }
-{
-    (64 < c) & (c < 91)
-}
-
-fn is_digit(c: u8) -> bool
-    ensures { result ≡ is_digit c }
-{
-    (47 < c) & (c < 58)
+    (b'A'..=b'R').contains(&c)
 }
 
 // ---- a row is written
@@ -29,47 +20,40 @@ fn is_digit(c: u8) -> bool
 // The value of a letter, and any other byte itself.
 fn value_in(values: &[u32; 26], c: u8) -> u8
     requires { OneByte values.now }
-    ensures { result ≡ cond (is_letter c) (value_in values.now c) c }
+    ensures { result ≡ cond (is_ascii_uppercase c) (value_in values.now c) c }
 {
-    if !is_letter(c) {
+    if !c.is_ascii_uppercase() {
         return c;
     }
-    let letter = (c - 65) as usize;
-    values[letter] as u8
+    values[usize::from(c - b'A')] as u8
 }
 
 // What a byte of a row says by its value.
-fn put_said(out: &mut [u8], at: usize, c: u8, v: u8) -> usize
-    requires { (at + 2 ≤ length out.old) × (is_number c ≡ true → v < 100) }
-    ensures { Wrote (says_of c v) at out.old out.new result × (result ≤ at + 2) }
+fn put_said<const N: usize>(out: &mut ArrayVec<u8, N>, c: u8, v: u8)
+    requires { (array_vec_len out.old + 2 ≤ N) × (is_number c ≡ true → v < 100) }
+    ensures text { out.new.items ≡ out.old.items ++ says_of c v }
+    ensures most { array_vec_len out.new ≤ array_vec_len out.old + 2 }
 {
     if !is_number(c) {
-        out[at] = v;
-        return at + 1;
+        out.push(v);
+        return;
     }
     if v < 10 {
-        out[at] = 48 + v;
-        return at + 1;
+        out.push(b'0' + v);
+        return;
     }
-    out[at] = 48 + v / 10;
-    out[at + 1] = 48 + v % 10;
-    at + 2
+    out.push(b'0' + v / 10);
+    out.push(b'0' + v % 10);
 }
 
-// The text of a row, at the start of the room. No byte of a row says more than two.
-pub fn put_row(out: &mut [u8], row: &[u8], values: &[u32; 26]) -> usize
-    requires { (2 * length row.now ≤ length out.old) × TwoDigits values.now × OneByte values.now }
-    ensures { Wrote (fill values.now row.now) 0 out.old out.new result }
+// The text of a row, behind what is there. No byte of a row says more than two.
+pub fn put_row<const N: usize>(out: &mut ArrayVec<u8, N>, row: &[u8], values: &[u32; 26])
+    requires { (array_vec_len out.old + 2 * length row.now ≤ N) × TwoDigits values.now × OneByte values.now }
+    ensures { out.new.items ≡ out.old.items ++ fill values.now row.now }
 {
-    let mut at = 0;
-    let mut i = 0;
-    while i < row.len() {
-        let c = row[i];
-        let v = value_in(values, c);
-        at = put_said(out, at, c, v);
-        i += 1;
+    for c in row {
+        put_said(out, *c, value_in(values, *c));
     }
-    at
 }
 
 // ---- a row is read
@@ -78,63 +62,53 @@ pub fn put_row(out: &mut [u8], row: &[u8], values: &[u32; 26]) -> usize
 fn byte_at(text: &[u8], at: usize) -> u8
     ensures { result ≡ get_or text.now at 0 }
 {
-    if at < text.len() {
-        return text[at];
-    }
-    0
+    text.get(at).copied().unwrap_or(0)
 }
 
-// The value that stands first, by a row's byte. No number has more than two digits.
-fn value_of(c: u8, a: u8, b: u8) -> u32
-    ensures { result ≡ value_of c a b }
+// What a row's letter takes of a text that goes on with `a` and `b`: its value, and how many bytes have it. No number has more than two digits.
+#[tactic(auto, unfolding(crate::specs::Scan::number_of, crate::specs::Scan::passes_of))]
+fn first(c: u8, a: u8, b: u8) -> (u32, usize)
+    ensures value { result.0 ≡ value_of c a b }
+    ensures passed { (result.1 ≡ passes_of c a b) × (result.1 ≤ 2) }
 {
     if !is_number(c) {
-        return a as u32;
+        return (u32::from(a), 1);
     }
-    if !is_digit(a) {
-        return 0;
+    if !a.is_ascii_digit() {
+        return (0, 0);
     }
-    if !is_digit(b) {
-        return (a - 48) as u32;
+    let digit = u32::from(a - b'0');
+    if !b.is_ascii_digit() {
+        return (digit, 1);
     }
-    ((a - 48) * 10 + (b - 48)) as u32
+    (digit * 10 + u32::from(b - b'0'), 2)
 }
 
-// How many of two bytes a row's byte passes.
-fn passes(c: u8, a: u8, b: u8) -> usize
-    ensures { (result ≡ passes_of c a b) × (result ≤ 2) }
+// A function of its own: of an array that a call returns the prover knows the length, and of one that it sees made it counts the elements.
+fn no_values() -> [u32; 26]
+    ensures { result ≡ replicate 26 0 }
 {
-    if !is_number(c) {
-        return 1;
-    }
-    if !is_digit(a) {
-        return 0;
-    }
-    if is_digit(b) { 2 } else { 1 }
+    [0; 26]
 }
 
-// Whether the text fits the row. Where it does, the values become those of the row's letters in the text.
-pub fn scan(text: &[u8], row: &[u8], values: &mut [u32; 26]) -> bool
-    ensures value { result ≡ fits row.now text.now }
-    ensures values_after { result ≡ true → values.new ≡ taken row.now text.now values.old }
+// The values of the row's letters in a text that fits the row. A letter that the row lacks has 0.
+pub fn scan(text: &[u8], row: &[u8]) -> Option<[u32; 26]>
+    ensures { result ≡ cond (fits row.now text.now) (Some (taken row.now text.now (replicate 26 0))) None }
 {
+    let mut values = no_values();
     let mut at = 0;
-    let mut i = 0;
-    while i < row.len() {
-        let c = row[i];
+    for c in row {
         let a = byte_at(text, at);
-        i += 1;
-        if !is_letter(c) {
-            if a != c {
-                return false;
+        if !c.is_ascii_uppercase() {
+            if a != *c {
+                return None;
             }
             at += 1;
             continue;
         }
-        let b = byte_at(text, at + 1);
-        let letter = (c - 65) as usize;
-        values[letter] = value_of(c, a, b);
-        at += passes(c, a, b);
+        let (value, passed) = first(*c, a, byte_at(text, at + 1));
+        values[usize::from(*c - b'A')] = value;
+        at += passed;
     }
-    true
+    Some(values)
 }

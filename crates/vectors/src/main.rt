@@ -5,7 +5,6 @@
 ghost use Rattle.std.specs.Prelude.{◌≡◌, ◌<◌, ◌≤◌, length};
 
 use settings::{Features, Modes, Refusal, Settings};
-use spelling::{Printed, WordRead};
 use std::io;
 use std::io::Read;
 use words::Fields;
@@ -281,11 +280,8 @@ fn has_text(room: &[u8], text: &[u8]) -> bool {
 // refusal where it leaves the room, and else OTHER_ANSWER.
 fn print_answer(settings: Settings, word: u32, text: &[u8], room: &mut [u8]) -> u32 {
     match spelling::print(settings, word, room) {
-        Printed::Text(length) => answer_if((length == text.len()) & has_text(room, text), 0),
-        Printed::Refused(refusal) => answer_if(
-            has_text(room, b""),
-            settings::refusal_number(refusal),
-        ),
+        Ok(length) => answer_if((length == text.len()) & has_text(room, text), 0),
+        Err(refusal) => answer_if(has_text(room, b""), settings::refusal_number(refusal)),
     }
 }
 
@@ -303,8 +299,8 @@ fn is_printed(word: u32, text: &[u8]) -> bool {
 // What read makes of a text: the number of its refusal, or 0 with a word, which must be the one that is due.
 fn read_answer(vl: u32, features: u32, text: &[u8], due: u32) -> u32 {
     match spelling::read(settings_with(vl, features), text) {
-        WordRead::Word(word) => answer_if(word == due, 0),
-        WordRead::Refused(refusal) => settings::refusal_number(refusal),
+        Ok(word) => answer_if(word == due, 0),
+        Err(refusal) => settings::refusal_number(refusal),
     }
 }
 

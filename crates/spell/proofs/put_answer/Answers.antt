@@ -1,10 +1,10 @@
-use Rattle.spell.proofs.Digits.{says_word}
+use Rattle.std.proofs.Common.{sym, ◌∙◌}
+use Rattle.spell.proofs.Digits.{says_none}
 use Rattle.spell.proofs.Ends.{word_answered}
 use Rattle.spell.proofs.put_answer.Goals as goal
 
-pub returns-then-word-lt-NO_WORD-clause-answered : goal.returns-then-word-lt-NO_WORD-clause-answered
-returns-then-word-lt-NO_WORD-clause-answered c =
-    (word_answered _ _ _ _ _ c.word_in-word.ensures c.if-word-lt-NO_WORD.true c.put_text_of.ensures).0
+pub returns-in-Some-clause-answered : goal.returns-in-Some-clause-answered
+returns-in-Some-clause-answered c = (word_answered _ _ _ _ _ (sym c.word_in.ensures ∙ c.in-Some.is) c.put_text_of.ensures).0
 
-pub returns-clause-answered : goal.returns-clause-answered
-returns-clause-answered c = c.put_word_of.ensures.0 ((says_word _ _ c.word_in-word.ensures).1 c.if-word-lt-NO_WORD.false)
+pub returns-in-None-clause-answered : goal.returns-in-None-clause-answered
+returns-in-None-clause-answered c = c.put_word_of.ensures.0 (says_none _ (sym c.word_in.ensures ∙ c.in-None.is))

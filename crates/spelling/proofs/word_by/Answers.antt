@@ -1,28 +1,27 @@
 -- `spelling::word_by` meets its contract. Assumes nothing.
+use Rattle.std.specs.Prelude.{◌≡◌, Some, None}
 use Prim.Native.Nat.{ℕ}
+use native.Mathlib.Omega.{arith}
 use mathlib.Core.Path.{sym, ap, ◌∙◌}
 use mathlib.Core.List.{List, []}
 use Rattle.syntax.specs.Scan.{taken}
-use Rattle.encoding.proofs.Found.{is_none}
 use Rattle.spelling.specs.Spell.{letters}
 use Rattle.spelling.specs.Candidate.{fields_by, candidate_at}
-use Rattle.spelling.proofs.Placed.{placed}
-use Rattle.spelling.proofs.Reading.{fits_not-row}
+use Rattle.spelling.proofs.Reading.{fits_not-row, found_so, none_so}
 use Rattle.spelling.proofs.word_by.Goals as goal
 
-pub slice_bounds-scan-count : goal.slice_bounds-scan-count
-slice_bounds-scan-count c = (placed c.args.k _ _ _ c.requires.0 c.start_at-from.ensures c.start_at-to.ensures c.requires.1).0
-
-pub slice_bounds-scan-start : goal.slice_bounds-scan-start
-slice_bounds-scan-start c = (placed c.args.k _ _ _ c.requires.0 c.start_at-from.ensures c.start_at-to.ensures c.requires.1).0
-
-pub slice_bounds-scan-end : goal.slice_bounds-scan-end
-slice_bounds-scan-end c = (placed c.args.k _ _ _ c.requires.0 c.start_at-from.ensures c.start_at-to.ensures c.requires.1).1
-
-pub returns-then-not-scan : goal.returns-then-not-scan
-returns-then-not-scan c = is_none (fits_not-row c.args.text.now c.args.k _ (placed c.args.k _ _ _ c.requires.0 c.start_at-from.ensures c.start_at-to.ensures c.requires.1).2 (sym c.scan.ensures.value ∙ c.if-not-scan.true))
+pub returns-in_err-values : goal.returns-in_err-values
+returns-in_err-values c =
+    let none : c.scan.result ≡ None = grind arith in
+    let e : c.from_residual.result ≡ None = grind arith in
+    rw e (fits_not-row c.args.text.now c.args.k _ c.row_at.ensures.text (none_so _ _ (sym none ∙ c.scan.ensures)))
 
 pub compared-requires : goal.compared-requires
 unfolding candidate_at
-compared-requires c = let row = (placed c.args.k _ _ _ c.requires.0 c.start_at-from.ensures c.start_at-to.ensures c.requires.1).2 in
-    (c.requires.0, c.fields_of-f.ensures ∙ ap (fields_by c.args.k) (c.scan.ensures.values_after (c.if-not-scan.false) ∙ ap (λ (r : List ℕ). taken r c.args.text.now (letters [])) row))
+compared-requires c =
+    let some : c.scan.result ≡ Some c.in_ok-values.values = grind arith in (
+      c.requires,
+      c.fields_of.ensures
+      ∙ ap (fields_by c.args.k)
+      (found_so _ _ _ (sym some ∙ c.scan.ensures) ∙ ap (λ (r : List ℕ). taken r c.args.text.now (letters [])) c.row_at.ensures.text),
+    )

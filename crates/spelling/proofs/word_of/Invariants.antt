@@ -1,10 +1,7 @@
 -- `spelling::word_of` meets its contract. Assumes nothing.
-use Prim.Native.Nat.{ℕ, ◌-◌, ◌≤◌, ◌<◌}
+use Prim.Native.Nat.{ℕ, ◌<◌}
 use Rattle.spelling.specs.Tried.{SpellsBy}
 use Rattle.spelling.proofs.word_of.Given as goal
 
 abbrev pub invariant-loop-k : goal.invariant-loop-k
-invariant-loop-k l = (l.k ≤ 18) × ((j : ℕ) → j < l.k → (w : ℕ) → SpellsBy j l.text w → ⊥)
-
-abbrev pub decreases-loop-k : goal.decreases-loop-k
-decreases-loop-k l = 18 - l.k
+invariant-loop-k l = (j : ℕ) → j < l.k → (w : ℕ) → SpellsBy j l.text w → ⊥

@@ -1,12 +1,18 @@
 use native.Mathlib.Omega.{arith}
-use mathlib.Core.Path.{refl}
+use mathlib.Core.Path.{ap, ◌∙◌}
+use mathlib.Core.List.{List, ◌++◌}
+use Prim.Native.Nat.{ℕ}
 use lib.ListN.{get_or}
-use Rattle.pieces.proofs.Pieces.{said}
-use Rattle.syntax.proofs.Turns.{none, one_more, says_of_lem}
+use Rattle.syntax.proofs.Turns.{nothing_yet, one_more, says_of_lem}
 use Rattle.syntax.proofs.put_row.Goals as goal
 
-pub loop-i-init : goal.loop-i-init
-loop-i-init c = (omega arith, refl, omega arith, none c.args.values.now c.args.row.now c.args.out.now)
+pub loop-c-init : goal.loop-c-init
+loop-c-init g c = (omega arith, nothing_yet c.args.values.now c.args.out.now.items)
 
-pub loop-i-preserved : goal.loop-i-preserved
-loop-i-preserved c = (omega arith, omega arith, omega (arith, c.put_said-at.ensures.1), one_more c.args.values.now c.args.row.now c.loop-i.i c.loop-i-test.true c.loop-i.invariant.3 (said (says_of_lem c.args.values.now (get_or c.args.row.now c.loop-i.i 0) _ c.value_in-v.ensures) c.put_said-at.ensures.0))
+pub loop-c-preserved : goal.loop-c-preserved
+loop-c-preserved g c = (
+  omega arith,
+  one_more c.args.values.now c.args.row.now c.args.out.now.items c.loop-c.c-index c.loop-c-test.true c.loop-c.invariant.1
+      (c.put_said.ensures.text
+      ∙ ap (λ (t : List ℕ). c.loop-c.out.items ++ t) (says_of_lem c.args.values.now (get_or c.args.row.now c.loop-c.c-index 0) _ c.value_in.ensures)),
+)

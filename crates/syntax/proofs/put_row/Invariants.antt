@@ -1,13 +1,11 @@
 -- `syntax::put_row` meets its contract. Assumes nothing.
-use Prim.Native.Nat.{◌-◌, ◌*◌, ◌≤◌}
+use Prim.Native.Nat.{◌+◌, ◌*◌, ◌≤◌}
 use mathlib.Core.Path.{◌≡◌}
+use mathlib.Core.List.{◌++◌}
 use lib.ListN.{length, take}
-use Rattle.pieces.specs.Pieces.{Wrote}
 use Rattle.syntax.specs.Syntax.{fill}
 use Rattle.syntax.proofs.put_row.Given as goal
 
-abbrev pub invariant-loop-i : goal.invariant-loop-i
-invariant-loop-i l = (l.i ≤ length l.row) × (length l.out ≡ length l.fn.out) × (l.at ≤ 2 * l.i) × Wrote (fill l.values (take l.i l.row)) 0 l.fn.out l.out l.at
-
-abbrev pub decreases-loop-i : goal.decreases-loop-i
-decreases-loop-i l = length l.row - l.i
+abbrev pub invariant-loop-c : goal.invariant-loop-c
+invariant-loop-c g l =
+    (length l.out.items ≤ length l.fn.out.items + 2 * l.c-index) × (l.out.items ≡ l.fn.out.items ++ fill l.values (take l.c-index l.row))
