@@ -76,7 +76,7 @@ pub struct Settings {
 }
 
 // Why a call gave no answer.
-#[derive(Clone, Copy)]
+#[derive(Clone, Copy, PartialEq, Eq)]
 pub enum Refusal {
     // 1: VL, features or modes outside the rules.
     BadSettings,

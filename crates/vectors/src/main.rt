@@ -2,38 +2,44 @@
 // LLVM's answers are on standard input, made by tests/llvm/make_vectors.py, whose header has the line's columns.
 #![tactic(auto)]
 
-ghost use Rattle.std.specs.Prelude.{◌≡◌, ◌<◌, ◌≤◌, length};
+ghost use Rattle.std.specs.Prelude.{◌<◌};
 
 use settings::{Features, Modes, Refusal, Settings};
-use std::io;
-use std::io::Read;
-use words::Fields;
+use std::{array, io};
+use words::{Family, Fields};
 
-const ALL_FEATURES: u32 = 31;
-// An answer that is no refusal number: decode found other fields than the line's, encode or read another word than is due,
-// or print left another room.
-const OTHER_ANSWER: u32 = 99;
-// Where the line's text begins.
+// Each feature set for which a line has a letter, in the letters' order.
+const FEATURE_SETS: [u32; 5] = [1, 2, 4, 12, 28];
+// Where the line's letters begin.
+const LETTERS: usize = 45;
+// Where its text begins.
 const TEXT: usize = 51;
 // Longer than any text.
 const ROOM: usize = 64;
 // What the room has before a text is printed into it, and past the text afterwards: a byte of no text.
 const UNTOUCHED: u8 = 7;
 
-fn byte_or(bytes: &[u8], at: usize, past: u8) -> u8 {
-    if at < bytes.len() { bytes[at] } else { past }
+// ---- a line
+
+// What a line says of a word: its fields, if it is of the five families, whether LLVM takes it by each feature set, and the text that LLVM prints.
+#[derive(Clone, Copy)]
+struct Case<'a> {
+    word: u32,
+    fields: Option<Fields>,
+    letters: &'a [u8],
+    text: &'a [u8],
 }
 
 // The byte at a place of the line, and 0 past its end, so that no reader has to know the line's length.
 fn byte_at(line: &[u8], at: usize) -> u8 {
-    byte_or(line, at, 0)
+    line.get(at).copied().unwrap_or(0)
 }
 
 // The value of a digit: `0` to `9` are the bytes 48 to 57, and `A` to `F` 65 to 70.
 fn digit(byte: u8) -> u32
     ensures { result < 16 }
 {
-    let code = byte as u32;
+    let code = u32::from(byte);
     if code < 64 {
         code % 16
     } else {
@@ -41,20 +47,12 @@ fn digit(byte: u8) -> u32
     }
 }
 
-// The number of four hexadecimal digits from a place.
-fn four_at(line: &[u8], at: usize) -> u32
-    requires { at < 5 }
-    ensures { result < 65536 }
-{
-    digit(byte_at(line, at)) * 4096
-        + digit(byte_at(line, at + 1)) * 256
-        + digit(byte_at(line, at + 2)) * 16
-        + digit(byte_at(line, at + 3))
-}
-
 // The word that the line is about: its first eight digits.
 fn word_of(line: &[u8]) -> u32 {
-    four_at(line, 0) * 65536 + four_at(line, 4)
+    (0..8usize).fold(
+        0u32,
+        |word, at| word.wrapping_mul(16).wrapping_add(digit(byte_at(line, at))),
+    )
 }
 
 // One of the line's twelve numbers, of two decimal digits each, after the word: 0 is the family, and the fields follow
@@ -66,343 +64,291 @@ fn number_of(line: &[u8], column: usize) -> u32
     digit(byte_at(line, at)) * 10 + digit(byte_at(line, at + 1))
 }
 
-fn family_of(line: &[u8]) -> u32 {
-    number_of(line, 0)
+fn flag(number: u32) -> Option<bool> {
+    match number {
+        0 => Some(false),
+        1 => Some(true),
+        _ => None,
+    }
 }
+
+fn family(number: u32) -> Option<Family> {
+    match number {
+        1 => Some(Family::ByElement),
+        2 => Some(Family::Vector),
+        3 => Some(Family::Saturating),
+        4 => Some(Family::LongLong),
+        5 => Some(Family::Long),
+        _ => None,
+    }
+}
+
+fn fields_of(line: &[u8]) -> Option<Fields> {
+    Some(Fields {
+        family: family(number_of(line, 0))?,
+        unsigned: flag(number_of(line, 1))?,
+        subtract: flag(number_of(line, 2))?,
+        lane: number_of(line, 3),
+        part: number_of(line, 4),
+        index: number_of(line, 5),
+        destination: number_of(line, 6),
+        first: number_of(line, 7),
+        second: number_of(line, 8),
+        group: number_of(line, 9),
+        select: number_of(line, 10),
+        offset: number_of(line, 11),
+    })
+}
+
+// None where it is no line of the list: it is too short, or its numbers are no fields. The text ends before the line's end.
+fn case_of(line: &[u8]) -> Option<Case<'_>> {
+    let letters = line.get(LETTERS..TEXT)?;
+    let (_, text) = line.get(TEXT..)?.split_last()?;
+    let fields = match number_of(line, 0) {
+        0 => None,
+        _ => Some(fields_of(line)?),
+    };
+    Some(Case {
+        word: word_of(line),
+        fields,
+        letters,
+        text,
+    })
+}
+
+// ---- settings
 
 fn settings_with(vl: u32, features: u32) -> Settings {
     Settings {
-        vl: vl,
+        vl,
         features: Features(features),
         modes: Modes(0),
         select: [0; 4],
     }
 }
 
-// What decode and partner answer where nothing is missing.
-fn decoded(word: u32) -> Result<Fields, Refusal> {
-    words::decode(settings_with(128, ALL_FEATURES), word)
+fn all_features() -> Settings {
+    settings_with(128, 31)
 }
 
-fn partnered(word: u32) -> Result<u32, Refusal> {
-    words::partner(settings_with(128, ALL_FEATURES), word)
+fn no_features() -> Settings {
+    settings_with(128, 0)
 }
 
-// Whether the line's twelve numbers are these fields.
-fn has_fields(line: &[u8], fields: Fields) -> bool {
-    let family = fields.family;
-    (number_of(line, 0) == words::family_number(family))
-        & (number_of(line, 1) == words::bit(fields.unsigned))
-        & (number_of(line, 2) == words::bit(fields.subtract))
-        & (number_of(line, 3) == fields.lane)
-        & (number_of(line, 4) == fields.part)
-        & (number_of(line, 5) == fields.index)
-        & (number_of(line, 6) == fields.destination)
-        & (number_of(line, 7) == fields.first)
-        & (number_of(line, 8) == fields.second)
-        & (number_of(line, 9) == fields.group)
-        & (number_of(line, 10) == fields.select)
-        & (number_of(line, 11) == fields.offset)
+// A vector length outside the rules is refused with 1, whatever else is asked.
+fn bad_length() -> Settings {
+    settings_with(129, 31)
 }
 
-fn answer_if(right: bool, answer: u32) -> u32 {
-    if right { answer } else { OTHER_ANSWER }
-}
+// ---- decode
 
-// What decode makes of the line's word: 0 where it finds the line's fields, OTHER_ANSWER where it finds others,
-// else the number of its refusal.
-fn answer(line: &[u8], vl: u32, features: u32) -> u32 {
-    match words::decode(settings_with(vl, features), word_of(line)) {
-        Ok(fields) => answer_if(has_fields(line, fields), 0),
-        Err(refusal) => settings::refusal_number(refusal),
-    }
-}
-
-// With every feature a word of the five families is described, and any other word refused with 3. A vector
-// length outside the rules is refused with 1 whatever the word is.
-fn is_decoded(line: &[u8]) -> bool {
-    let due = if family_of(line) == 0 { 3 } else { 0 };
-    (answer(line, 128, ALL_FEATURES) == due) & (answer(line, 129, ALL_FEATURES) == 1)
+// With every feature a word of the five families is described, and any other word refused with 3.
+fn is_decoded(case: Case<'_>) -> bool {
+    (words::decode(all_features(), case.word) == case.fields.ok_or(Refusal::UnknownWord))
+        & (words::decode(bad_length(), case.word) == Err(Refusal::BadSettings))
 }
 
 // Whether decode does under one feature set what LLVM's letter says. At a dot LLVM could not be asked, and decode
 // may do either, but answers nothing else.
-fn is_taken(line: &[u8], features: u32, letter: u8) -> bool {
-    let got = answer(line, 128, features);
+fn is_taken(case: Case<'_>, features: u32, letter: u8) -> bool {
+    let answer = words::decode(settings_with(128, features), case.word);
+    let refused = answer == Err(Refusal::UnknownWord);
+    let described = answer.is_ok() & (answer == case.fields.ok_or(Refusal::UnknownWord));
     match letter {
-        b'y' => got == 0,
-        b'n' => got == 3,
-        b'.' => (got == 0) | (got == 3),
+        b'y' => described,
+        b'n' => refused,
+        b'.' => described | refused,
         _ => false,
     }
 }
 
-fn is_taken_by_sets(line: &[u8]) -> bool {
-    is_taken(line, 1, byte_at(line, 45))
-        & is_taken(line, 2, byte_at(line, 46))
-        & is_taken(line, 4, byte_at(line, 47))
-        & is_taken(line, 12, byte_at(line, 48))
-        & is_taken(line, 28, byte_at(line, 49))
+fn is_taken_by_sets(case: Case<'_>) -> bool {
+    FEATURE_SETS
+        .iter()
+        .zip(case.letters)
+        .all(|(features, letter)| is_taken(case, *features, *letter))
 }
 
-// What encode makes of fields: the number of its refusal, or 0 with a word, which must be the one that is due.
-fn encode_answer(settings: Settings, fields: Fields, due: u32) -> u32 {
-    match encoding::encode(settings, fields) {
-        Ok(word) => answer_if(word == due, 0),
-        Err(refusal) => settings::refusal_number(refusal),
-    }
+// ---- encode
+
+fn no_word_has(fields: Fields) -> bool {
+    encoding::encode(all_features(), fields) == Err(Refusal::NoSuchWord)
 }
 
 // Whether encode refuses the fields with 5, as it must where one of them has a value that no family knows.
-fn no_word_has(fields: Fields) -> bool {
-    encode_answer(settings_with(128, ALL_FEATURES), fields, 0) == 5
-}
-
-fn refuses_spoiled_numbers(fields: Fields) -> bool {
-    let mut lane = fields;
-    lane.lane = 64;
-    let mut part = fields;
-    part.part = 2;
-    let mut index = fields;
-    index.index = 8;
-    let mut group = fields;
-    group.group = 3;
-    let mut select = fields;
-    select.select = 12;
-    let mut offset = fields;
-    offset.offset = 8;
-    no_word_has(lane)
-        & no_word_has(part)
-        & no_word_has(index)
-        & no_word_has(group)
-        & no_word_has(select)
-        & no_word_has(offset)
-}
-
-fn refuses_spoiled_registers(fields: Fields) -> bool {
-    let mut destination = fields;
-    destination.destination = 32;
-    let mut first = fields;
-    first.first = 32;
-    let mut second = fields;
-    second.second = 32;
-    no_word_has(destination) & no_word_has(first) & no_word_has(second)
+fn refuses_spoiled(fields: Fields) -> bool {
+    let spoiled = [
+        Fields { lane: 64, ..fields },
+        Fields { part: 2, ..fields },
+        Fields { index: 8, ..fields },
+        Fields { group: 3, ..fields },
+        Fields {
+            select: 12,
+            ..fields
+        },
+        Fields {
+            offset: 8,
+            ..fields
+        },
+        Fields {
+            destination: 32,
+            ..fields
+        },
+        Fields {
+            first: 32,
+            ..fields
+        },
+        Fields {
+            second: 32,
+            ..fields
+        },
+    ];
+    spoiled.iter().all(|fields| no_word_has(*fields))
 }
 
 // Whether the fields encode to the word, with the refusals that other settings owe: 3 without a feature, and 1.
 fn encodes_to(fields: Fields, word: u32) -> bool {
-    (encode_answer(settings_with(128, ALL_FEATURES), fields, word) == 0)
-        & (encode_answer(settings_with(128, 0), fields, word) == 3)
-        & (encode_answer(settings_with(129, ALL_FEATURES), fields, word) == 1)
-        & refuses_spoiled_numbers(fields)
-        & refuses_spoiled_registers(fields)
+    (encoding::encode(all_features(), fields) == Ok(word))
+        & (encoding::encode(no_features(), fields) == Err(Refusal::UnknownWord))
+        & (encoding::encode(bad_length(), fields) == Err(Refusal::BadSettings))
+        & refuses_spoiled(fields)
 }
 
-// Whether the fields that decode finds encode to the line's word again. A word without fields has nothing to show.
-fn is_encoded(line: &[u8]) -> bool {
-    let word = word_of(line);
-    match decoded(word) {
-        Ok(fields) => encodes_to(fields, word),
-        Err(_) => true,
+// A word without fields has nothing to show.
+fn is_encoded(case: Case<'_>) -> bool {
+    match case.fields {
+        Some(fields) => encodes_to(fields, case.word),
+        None => true,
     }
 }
 
-fn flipped(mut fields: Fields) -> Fields {
-    fields.subtract = !fields.subtract;
-    fields
-}
+// ---- partner
 
-// Whether decode describes the word by the line's fields with subtract flipped.
-fn is_flipped(line: &[u8], word: u32) -> bool {
-    match decoded(word) {
-        Ok(fields) => has_fields(line, flipped(fields)),
+// Whether the word's partner is the word that decode describes by the fields with subtract flipped, and is its partner in turn.
+fn has_partner(word: u32, fields: Fields) -> bool {
+    let flipped = Fields {
+        subtract: !fields.subtract,
+        ..fields
+    };
+    match words::partner(all_features(), word) {
+        Ok(other) => {
+            (words::decode(all_features(), other) == Ok(flipped))
+                & (words::partner(all_features(), other) == Ok(word))
+        }
         Err(_) => false,
     }
 }
 
-fn has_partner(word: u32, other: u32) -> bool {
-    match partnered(word) {
-        Ok(found) => found == other,
-        Err(_) => false,
-    }
-}
-
-// The refusal that partner owes a family: C has no partner, and 0 is none of the five. The others have one.
-fn partner_refusal(family: u32) -> u32 {
-    match family {
-        0 => 3,
-        3 => 6,
-        _ => 0,
-    }
-}
-
-fn is_partnered(line: &[u8]) -> bool {
-    let word = word_of(line);
-    let due = partner_refusal(family_of(line));
-    match partnered(word) {
-        Ok(other) => (due == 0) & is_flipped(line, other) & has_partner(other, word),
-        Err(refusal) => settings::refusal_number(refusal) == due,
-    }
-}
-
-// The place after the first such byte from `at` on, or the end of the list.
-fn place_after(list: &[u8], at: usize, byte: u8) -> usize
-    requires { at < length list.now }
-    ensures { (at < result) × (result ≤ length list.now) }
-{
-    let mut i = at;
-    while i < list.len() {
-        i += 1;
-        if list[i - 1] == byte {
-            return i;
+// C has no partner, nor has a word that is of none of the five families.
+fn is_partnered(case: Case<'_>) -> bool {
+    match case.fields {
+        None => words::partner(all_features(), case.word) == Err(Refusal::UnknownWord),
+        Some(fields) => {
+            if fields.family == Family::Saturating {
+                return words::partner(all_features(), case.word) == Err(Refusal::NoPartner);
+            }
+            has_partner(case.word, fields)
         }
     }
-    i
 }
+
+// ---- print and read
 
 fn untouched_room() -> [u8; ROOM] {
     [UNTOUCHED; ROOM]
 }
 
-// Whether the room has as much of the text as it can hold, and past the text what it had before.
+// Whether the room has the text, and past it what it had before.
 fn has_text(room: &[u8], text: &[u8]) -> bool {
-    let mut i = 0;
-    while i < room.len() {
-        if room[i] != byte_or(text, i, UNTOUCHED) {
-            return false;
-        }
-        i += 1;
-    }
-    true
-}
-
-// What print makes of the word in an untouched room: 0 where it puts the text there and gives its length, the number of its
-// refusal where it leaves the room, and else OTHER_ANSWER.
-fn print_answer(settings: Settings, word: u32, text: &[u8], room: &mut [u8]) -> u32 {
-    match spelling::print(settings, word, room) {
-        Ok(length) => answer_if((length == text.len()) & has_text(room, text), 0),
-        Err(refusal) => answer_if(has_text(room, b""), settings::refusal_number(refusal)),
+    match room.strip_prefix(text) {
+        Some(rest) => rest.iter().all(|byte| *byte == UNTOUCHED),
+        None => false,
     }
 }
 
-fn print_answer_with(vl: u32, features: u32, word: u32, text: &[u8]) -> u32 {
+// Whether print answers so in an untouched room, and leaves this text in it.
+fn prints(settings: Settings, word: u32, answer: Result<usize, Refusal>, text: &[u8]) -> bool {
     let mut room = untouched_room();
-    print_answer(settings_with(vl, features), word, text, &mut room)
+    (spelling::print(settings, word, &mut room) == answer) & has_text(&room, text)
+}
+
+fn print_refuses(settings: Settings, word: u32, refusal: Refusal) -> bool {
+    prints(settings, word, Err(refusal), b"")
 }
 
 fn is_printed(word: u32, text: &[u8]) -> bool {
-    (print_answer_with(128, ALL_FEATURES, word, text) == 0)
-        & (print_answer_with(128, 0, word, text) == 3)
-        & (print_answer_with(129, ALL_FEATURES, word, text) == 1)
-}
-
-// What read makes of a text: the number of its refusal, or 0 with a word, which must be the one that is due.
-fn read_answer(vl: u32, features: u32, text: &[u8], due: u32) -> u32 {
-    match spelling::read(settings_with(vl, features), text) {
-        Ok(word) => answer_if(word == due, 0),
-        Err(refusal) => settings::refusal_number(refusal),
-    }
+    prints(all_features(), word, Ok(text.len()), text)
+        & print_refuses(no_features(), word, Refusal::UnknownWord)
+        & print_refuses(bad_length(), word, Refusal::BadSettings)
 }
 
 fn is_read(text: &[u8], word: u32) -> bool {
-    (read_answer(128, ALL_FEATURES, text, word) == 0)
-        & (read_answer(128, 0, text, word) == 3)
-        & (read_answer(129, ALL_FEATURES, text, word) == 1)
+    (spelling::read(all_features(), text) == Ok(word))
+        & (spelling::read(no_features(), text) == Err(Refusal::UnknownWord))
+        & (spelling::read(bad_length(), text) == Err(Refusal::BadSettings))
 }
 
 // Whether print refuses the word, which is none of the five, and read the text that stands there, whatever it is.
 fn has_no_text(word: u32, text: &[u8]) -> bool {
-    (print_answer_with(128, ALL_FEATURES, word, text) == 3)
-        & (print_answer_with(129, ALL_FEATURES, word, text) == 1)
-        & (read_answer(128, ALL_FEATURES, text, word) == 11)
-        & (read_answer(128, 0, text, word) == 11)
-        & (read_answer(129, ALL_FEATURES, text, word) == 1)
+    print_refuses(all_features(), word, Refusal::UnknownWord)
+        & print_refuses(bad_length(), word, Refusal::BadSettings)
+        & (spelling::read(all_features(), text) == Err(Refusal::NotText))
+        & (spelling::read(no_features(), text) == Err(Refusal::NotText))
+        & (spelling::read(bad_length(), text) == Err(Refusal::BadSettings))
 }
 
-fn is_text_of(text: &[u8], word: u32, family: u32) -> bool {
-    match family {
-        0 => has_no_text(word, text),
-        _ => is_printed(word, text) & is_read(text, word),
+fn is_spelled(case: Case<'_>) -> bool {
+    match case.fields {
+        Some(_) => is_printed(case.word, case.text) & is_read(case.text, case.word),
+        None => has_no_text(case.word, case.text),
     }
 }
 
-// The text ends before the line's end.
-fn is_spelled(line: &[u8]) -> bool {
-    let length = line.len();
-    if length <= TEXT {
-        return false;
-    }
-    is_text_of(&line[TEXT..length - 1], word_of(line), family_of(line))
-}
+// ---- all lines
 
 fn is_right(line: &[u8]) -> bool {
-    is_decoded(line)
-        & is_taken_by_sets(line)
-        & is_encoded(line)
-        & is_partnered(line)
-        & is_spelled(line)
+    match case_of(line) {
+        Some(case) => {
+            is_decoded(case)
+                & is_taken_by_sets(case)
+                & is_encoded(case)
+                & is_partnered(case)
+                & is_spelled(case)
+        }
+        None => false,
+    }
 }
 
-// How many words of this line decode describes: 0 or 1.
-fn described_in(line: &[u8]) -> usize
-    ensures { result < 2 }
-{
-    match decoded(word_of(line)) {
-        Ok(_) => 1,
-        Err(_) => 0,
-    }
+fn is_described(line: &[u8]) -> bool {
+    words::decode(all_features(), word_of(line)).is_ok()
 }
 
 // Names the word by the line's own digits.
 fn print_wrong(rt: &impl Print, line: &[u8]) -> io::Result<()> {
-    let digits = [
-        byte_at(line, 0),
-        byte_at(line, 1),
-        byte_at(line, 2),
-        byte_at(line, 3),
-        byte_at(line, 4),
-        byte_at(line, 5),
-        byte_at(line, 6),
-        byte_at(line, 7),
-    ];
+    let digits: [u8; 8] = array::from_fn(|at| byte_at(line, at));
     rt.write_all(b"wrong ")?;
     rt.write_all(&digits)?;
     rt.write_all(b"\n")
 }
 
-// How many words of this line are wrong: 0 or 1.
-fn wrong_in(line: &[u8]) -> usize
-    ensures { result < 2 }
-{
-    if is_right(line) { 0 } else { 1 }
-}
-
-fn print_counts(rt: &impl Print, words: usize, described: usize, wrong: usize) -> io::Result<()>
-    requires { described ≤ words }
-{
-    let refused = words - described;
-    println!(rt; "{words} words: {described} described, {refused} refused, {wrong} wrong")
-}
-
 // Checks each line, and then says how many words there were.
 fn check_list(rt: &impl Print, list: &[u8]) -> io::Result<()> {
-    let mut at = 0;
-    let mut words = 0;
-    let mut described = 0;
-    let mut wrong = 0;
-    while at < list.len() {
-        let next = place_after(list, at, b'\n');
-        let line = &list[at..next];
-        described += described_in(line);
-        let found = wrong_in(line);
-        if found > 0 {
-            print_wrong(rt, line)?;
+    let mut described = 0usize;
+    let mut refused = 0usize;
+    let mut wrong = 0usize;
+    for line in list.split_inclusive(|byte| *byte == b'\n') {
+        if is_described(line) {
+            described = described.saturating_add(1);
+        } else {
+            refused = refused.saturating_add(1);
         }
-        wrong += found;
-        words += 1;
-        at = next;
+        if !is_right(line) {
+            print_wrong(rt, line)?;
+            wrong = wrong.saturating_add(1);
+        }
     }
-    print_counts(rt, words, described, wrong)
+    let words = described.saturating_add(refused);
+    println!(rt; "{words} words: {described} described, {refused} refused, {wrong} wrong")
 }
 
 // Larger than the file. A longer file would be cut short, and the count of words would show it.

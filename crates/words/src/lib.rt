@@ -15,7 +15,7 @@ use layouts::*;
 use settings::{Features, Refusal, Settings};
 
 // The families of document 01, A to E, by what they do.
-#[derive(Clone, Copy)]
+#[derive(Clone, Copy, PartialEq, Eq)]
 pub enum Family {
     // A: by element.
     ByElement,
@@ -30,7 +30,7 @@ pub enum Family {
 }
 
 // What a word says. A field that the family lacks is 0, and the group 1.
-#[derive(Clone, Copy)]
+#[derive(Clone, Copy, PartialEq, Eq)]
 pub struct Fields {
     pub family: Family,
     pub unsigned: bool,
@@ -52,7 +52,7 @@ pub struct Fields {
 
 // Which fields a word has: A and C by their lane, D and E by their group. A kind is one byte, so that a word can be refused
 // before any field is read.
-#[derive(Clone, Copy)]
+#[derive(Clone, Copy, PartialEq, Eq)]
 pub enum Kind {
     ByElement16,
     ByElement32,
