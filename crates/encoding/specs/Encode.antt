@@ -1,5 +1,5 @@
 -- Document 01, "Refusal numbers": what encode answers, said by what words say and by nothing else.
-use Rattle.std.specs.Prelude.{ℕ, ◌<◌, ◌≤◌, ◌^◌, ◌≡◌, true, false, Option, MatchOption}
+use Rattle.std.specs.Prelude.{ℕ, ◌<◌, ◌^◌, ◌≡◌, true, false, Option, MatchOption}
 use Rattle.settings.specs.Valid.{valid_settings}
 use Rattle.settings.specs.declared.Settings.{Settings}
 use Rattle.words.specs.Says.{As, describe}

@@ -159,26 +159,27 @@ fn row_at(k: usize) -> Row
     ROWS[k]
 }
 
-fn either(is: bool, yes: u32, no: u32) -> u32
-    ensures { (result ≡ cond is yes no) × (result ≤ yes + no) }
-{
-    if is { yes } else { no }
-}
-
 // The number of the row of fields, the preferred one.
 #[tactic(auto, unfolding(crate::specs::Spell::row_for))]
 fn row_of(f: Fields) -> u32
     ensures { result ≡ row_for false f }
 {
-    let family = f.family;
-    let lane = f.lane;
-    let half = either(f.part == 0, 0, 1);
-    match family {
-        Family::ByElement => either(lane == 16, 0, 2) + half,
-        Family::Vector => either(lane == 8, 4, either(lane == 16, 6, 8)) + half,
-        Family::Saturating => either(lane == 16, 10, 11),
-        Family::LongLong => either(lane == 8, 12, 13),
-        Family::Long => 14,
+    match (f.family, f.lane, f.part) {
+        (Family::ByElement, 16, 0) => 0,
+        (Family::ByElement, 16, _) => 1,
+        (Family::ByElement, _, 0) => 2,
+        (Family::ByElement, ..) => 3,
+        (Family::Vector, 8, 0) => 4,
+        (Family::Vector, 8, _) => 5,
+        (Family::Vector, 16, 0) => 6,
+        (Family::Vector, 16, _) => 7,
+        (Family::Vector, _, 0) => 8,
+        (Family::Vector, ..) => 9,
+        (Family::Saturating, 16, _) => 10,
+        (Family::Saturating, ..) => 11,
+        (Family::LongLong, 8, _) => 12,
+        (Family::LongLong, ..) => 13,
+        (Family::Long, ..) => 14,
     }
 }
 
@@ -189,25 +190,22 @@ fn last_offset(family: Family, offset: u32) -> u32
     ensures { result ≡ last_offset family offset }
 {
     match family {
-        Family::ByElement => offset,
-        Family::Vector => offset,
-        Family::Saturating => offset,
         Family::LongLong => offset + 3,
         Family::Long => offset + 1,
+        _ => offset,
     }
 }
 
-// The values of the letters, A to Z. The bytes of `a` and `b` are 97 and 98, those of `s`, `t` and `u` 115 to 117.
+// The values of the letters, A to Z.
 #[tactic(auto, unfolding(crate::specs::Spell::letter_values))]
 fn values_of(f: Fields) -> [u32; 26]
     requires { Figures f }
     ensures { result ≡ letter_values f }
 {
-    let family = f.family;
-    let p = last_offset(family, f.offset);
-    let s = either(f.subtract, 115, 97);
-    let t = either(f.part == 0, 98, 116);
-    let u = either(f.unsigned, 117, 115);
+    let p = last_offset(f.family, f.offset);
+    let s = u32::from(if f.subtract { b's' } else { b'a' });
+    let t = u32::from(if f.part == 0 { b'b' } else { b't' });
+    let u = u32::from(if f.unsigned { b'u' } else { b's' });
     let k = f.first + f.group - 1;
     let l = f.second + f.group - 1;
     [
@@ -280,13 +278,8 @@ pub fn print(settings: Settings, word: u32, room: &mut [u8]) -> Result<usize, Re
 fn group_of(first: u32, last: u32) -> u32
     ensures { result ≡ group_of first last }
 {
-    if last < first {
-        return 1;
-    }
-    if last - first < 4 {
-        return last - first + 1;
-    }
-    0
+    let more = last.saturating_sub(first);
+    if more < 4 { more + 1 } else { 0 }
 }
 
 // The value of a letter.
@@ -297,19 +290,19 @@ fn value(values: &[u32; 26], letter: u8) -> u32
     values[usize::from(letter - b'A')]
 }
 
-// The fields of a row's number and of its values. The bytes of `s`, `t` and `u` are 115 to 117.
+// The fields of a row's number and of its values.
 fn fields_of(k: usize, values: &[u32; 26]) -> Fields
     requires { k < 18 }
     ensures { result ≡ fields_by k values.now }
 {
     let row = row_at(k);
     let first = value(values, b'N');
-    let top = words::bit(value(values, b'T') == 116);
+    let top = words::bit(value(values, b'T') == u32::from(b't'));
     let group = group_of(first, value(values, b'K'));
     Fields {
         family: row.family,
-        unsigned: value(values, b'U') == 117,
-        subtract: value(values, b'S') == 115,
+        unsigned: value(values, b'U') == u32::from(b'u'),
+        subtract: value(values, b'S') == u32::from(b's'),
         lane: row.lane,
         part: row.part + top,
         index: value(values, b'I'),

@@ -1,5 +1,5 @@
 -- `spelling::print` meets its contract. Assumes nothing.
-use Rattle.std.proofs.Common.{rules, ◌≡◌, Err, sym, ap, ◌∙◌}
+use Rattle.std.proofs.Common.{rules, ◌≡◌, Err, sym, ◌∙◌}
 use Rattle.settings.proofs.Refusals.{not_0}
 use Rattle.words.proofs.Answers.{decodes_exactly}
 use Rattle.spelling.proofs.Back.{figures}

@@ -22,6 +22,6 @@ compared-requires c =
     let some : c.scan.result ≡ Some c.in_ok-values.values = grind arith in (
       c.requires,
       c.fields_of.ensures
-      ∙ ap (fields_by c.args.k)
-      (found_so _ _ _ (sym some ∙ c.scan.ensures) ∙ ap (λ (r : List ℕ). taken r c.args.text.now (letters [])) c.row_at.ensures.text),
+          ∙ ap (fields_by c.args.k)
+          (found_so _ _ _ (sym some ∙ c.scan.ensures) ∙ ap (λ (r : List ℕ). taken r c.args.text.now (letters [])) c.row_at.ensures.text),
     )
