@@ -9,12 +9,11 @@ use lib.Seq.{length-take-le, take_all}
 use borrow.Author.Tests.{ne_eqb}
 use Rattle.laws.proofs.Tests.{never_both, by_lt}
 use Rattle.pieces.specs.Pieces.{text, hex8}
-use Rattle.pieces.proofs.Pieces.{said, wrote_unique}
 use Rattle.spelling.specs.Spell.{longest_text}
 use Rattle.spelling.specs.Language.{Spells, Reads, not_text}
 use Rattle.spelling.proofs.Theorems.{reads_unique}
 use Rattle.spelling.proofs.Longest.{no_longer}
-use Rattle.spell.specs.Spelled.{all_on, is_word, unless_refused, Answers, Answered, to_word, to_text}
+use Rattle.spell.specs.Spelled.{all_on, is_word, unless_refused, Answers, to_word, to_text}
 use Rattle.spell.specs.Theorems.{OneAnswer, EnoughKept}
 use Rattle.spell.proofs.Answers.{valid}
 
@@ -24,11 +23,6 @@ answer_unique line a b (to_word p) (to_text q _ _ _) = absurd (never_both _ p q)
 answer_unique line a b (to_text p _ _ _) (to_word q) = absurd (never_both _ q p)
 answer_unique line a b (to_text _ n w r) (to_text _ m v q) =
     ap (λ (x : ℕ × ℕ). unless_refused x.0 (hex8 x.1) ++ text "\n") (reads_unique all_on line (n, w) (m, v) r q)
-
--- so the promise determines the length and the room at the end
-pub answered_unique : (line room room₁ room₂ : List ℕ) (r q : ℕ) → Answered line room room₁ r → Answered line room room₂ q → (r ≡ q) × (room₁ ≡ room₂)
-answered_unique line room room₁ room₂ r q x y =
-    wrote_unique x.wrote (said (answer_unique line y.answer x.answer y.answers x.answers) y.wrote)
 
 -- ---- the bytes that are kept
 

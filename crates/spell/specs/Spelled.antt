@@ -1,8 +1,8 @@
 -- What the program `spell` prints for a line, which is a list of bytes without its line end: "a line of eight hexadecimal digits becomes the word's text, a
 -- line of text becomes the word's eight upper-case digits, any other line becomes `refused N` (with N of the call); all features are on".
-use Rattle.std.specs.Prelude.{ℕ, zero, suc, ◌+◌, ◌*◌, ◌/◌, ◌%◌, ◌≡◌, ◌≤◌, Bool, true, false, ◌&&◌, ◌||◌, cond, List, [], ◌∷◌, ◌++◌, eqb, leb, length, take, get_or, Option, Some, None}
+use Rattle.std.specs.Prelude.{ℕ, zero, suc, ◌+◌, ◌*◌, ◌/◌, ◌%◌, ◌≡◌, Bool, true, false, ◌&&◌, ◌||◌, cond, List, [], ◌∷◌, ◌++◌, eqb, leb, length, get_or, Option, Some, None}
 use Prim.Native.String.{String}
-use Rattle.pieces.specs.Pieces.{text, decimal, hex8, Wrote}
+use Rattle.pieces.specs.Pieces.{text, decimal, hex8}
 use Rattle.settings.specs.declared.Settings.{Settings}
 use Rattle.words.specs.Decode.{decode_paper}
 use Rattle.words.specs.declared.Fields.{Fields}
@@ -60,17 +60,7 @@ pub data Answers (line : List ℕ) : List ℕ → Type 0 where
   to_word : is_word line ≡ true → Answers line (word_text (decode_paper all_on (word_of line)) ++ text "\n")
   to_text : is_word line ≡ false → (number word : ℕ) → Reads all_on line (number, word) → Answers line (unless_refused number (hex8 word) ++ text "\n")
 
--- what the function that writes it promises: the answer stands at the start of the room, and r is its length
-pub record Answered (line room room' : List ℕ) (r : ℕ) : Type 0 where
-  pub answer : List ℕ
-  pub answers : Answers line answer
-  pub wrote : Wrote answer 0 room room' r
-
 -- ---- only contracts use these
-
--- the first n bytes are there, and are n: the second part follows from the first, and spares a caller's `&room[..n]` a proof file
-abbrev pub IsPrefixLen : ℕ → List ℕ → Type 0
-IsPrefixLen n xs = (n ≤ length xs) × (n ≡ length (take n xs))
 
 -- the value of a byte that is a digit
 abbrev pub digit_in : ℕ → Option ℕ

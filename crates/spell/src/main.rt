@@ -1,26 +1,23 @@
 // For people: a line of eight hexadecimal digits becomes the text of the word, and a line of text becomes the word.
 #![tactic(auto)]
 
-ghost use Rattle.std.specs.Prelude.{◌≡◌, false, ◌++◌, ◌+◌, ◌≤◌, ◌<◌, length, IfOk};
-ghost use Rattle.pieces.specs.Pieces.{text, Wrote};
+ghost use Rattle.std.specs.Prelude.{◌≡◌, false, [], ◌++◌, ◌<◌, length};
+ghost use Rattle.pieces.specs.Pieces.{text};
 ghost use Rattle.words.specs.Decode.{decode_paper};
 ghost use Rattle.spelling.specs.Spell.{longest_text};
-ghost use Rattle.spell.specs.Spelled.{all_on, digit_in, is_word, word_in, word_text, Answered, IsPrefixLen};
+ghost use Rattle.spell.specs.Spelled.{all_on, digit_in, is_word, word_in, word_text, Answers};
 
+use arrayvec::ArrayVec;
 use settings::{Features, Modes, Settings};
 use std::io;
 use std::io::Read;
 
-fn all_on() -> Settings
-    ensures { result ≡ all_on }
-{
-    Settings {
-        vl: 128,
-        features: Features(31),
-        modes: Modes(0),
-        select: [0; 4],
-    }
-}
+const ALL_ON: Settings = Settings {
+    vl: 128,
+    features: Features(31),
+    modes: Modes(0),
+    select: [0; 4],
+};
 
 // ---- a line of eight hexadecimal digits
 
@@ -56,44 +53,44 @@ fn room() -> [u8; ROOM]
     [0; ROOM]
 }
 
-// The text of a word, or its refusal. Since all features are on, a word is refused with 3 only.
-fn put_text_of(out: &mut [u8], word: u32) -> usize
-    requires { 64 ≤ length out.old }
-    ensures { Wrote (word_text (decode_paper all_on word) ++ text "\n") 0 out.old out.new result }
+fn ended(piece: &[u8]) -> ArrayVec<u8, ROOM>
+    requires { length piece.now < 64 }
+    ensures { result.items ≡ piece.now ++ text "\n" }
 {
-    match spelling::print(all_on(), word, out) {
-        Ok(n) => {
-            out[n] = b'\n';
-            n + 1
-        }
-        Err(_) => pieces::put_text(out, 0, b"refused 3\n"),
+    let mut line = ArrayVec::new();
+    line.try_extend_from_slice(piece).unwrap();
+    line.push(b'\n');
+    line
+}
+
+// The text of a word, or its refusal. Since all features are on, a word is refused with 3 only.
+fn text_of(word: u32) -> ArrayVec<u8, ROOM>
+    ensures { result.items ≡ word_text (decode_paper all_on word) ++ text "\n" }
+{
+    let mut room = room();
+    match spelling::print(ALL_ON, word, &mut room) {
+        Ok(n) => ended(&room[..n]),
+        Err(_) => ended(b"refused 3"),
     }
 }
 
 // The word of a text, or its refusal. Since all features are on, a text is refused with 11 only.
-fn put_word_of(out: &mut [u8], line: &[u8]) -> usize
-    requires { 64 ≤ length out.old }
-    ensures { (is_word line.now ≡ false → Answered line.now out.old out.new result) × IsPrefixLen result out.new }
+fn word_of(line: &[u8]) -> ArrayVec<u8, ROOM>
+    ensures { is_word line.now ≡ false → Answers line.now result.items }
 {
     match spelling::word_of(line) {
-        Some(word) => {
-            let end = pieces::put_digits(out, 0, u64::from(word), 16, 8);
-            out[end] = b'\n';
-            end + 1
-        }
-        None => pieces::put_text(out, 0, b"refused 11\n"),
+        Some(word) => ended(pieces::hex8(word).as_str().as_bytes()),
+        None => ended(b"refused 11"),
     }
 }
 
 // The answer to a line, with the line's end.
-fn put_answer(out: &mut [u8], line: &[u8]) -> usize
-    requires { 64 ≤ length out.old }
-    ensures answered { Answered line.now out.old out.new result }
-    ensures prefix_len { IsPrefixLen result out.new }
+fn answer_to(line: &[u8]) -> ArrayVec<u8, ROOM>
+    ensures { Answers line.now result.items }
 {
     match word_in(line) {
-        Some(word) => put_text_of(out, word),
-        None => put_word_of(out, line),
+        Some(word) => text_of(word),
+        None => word_of(line),
     }
 }
 
@@ -102,84 +99,69 @@ fn put_answer(out: &mut [u8], line: &[u8]) -> usize
 // How many bytes of a line are kept.
 const KEPT: usize = 64;
 
-// Writes the answer to a line. Each answer is written at once, for whoever types a line and waits.
-fn answer(rt: &impl Print, line: &[u8]) -> io::Result<()> {
-    let mut out = room();
-    let length = put_answer(&mut out, line);
-    rt.write_all(&out[..length])
+// More than the longest text has: of a longer line these bytes decide the answer (`enough_kept`).
+fn no_line() -> ArrayVec<u8, KEPT>
+    ensures { (result.items ≡ []) × (longest_text < KEPT) }
+{
+    ArrayVec::new()
 }
 
-// Answers the lines that end in a piece of the input, and tells how many bytes of the next line are kept: no more than `line` has room for.
+// Writes the answer to a line. Each answer is written at once, for whoever types a line and waits.
+fn answer(rt: &impl Print, line: &[u8]) -> io::Result<()> {
+    rt.write_all(answer_to(line).as_slice())
+}
+
+// Answers the lines that end in a piece of the input, and keeps what `line` has room for of the next one.
 // Where an answer can't be written that error comes back, and `line` has any bytes.
-fn take_piece(rt: &impl Print, piece: &[u8], line: &mut [u8], before: usize) -> io::Result<usize>
-    requires { before ≤ length line.old }
-    ensures kept { IfOk result (λ kept. kept ≤ length line.new) }
-    ensures same_room { length line.new ≡ length line.old }
-{
-    let mut kept = before;
+fn take_piece(rt: &impl Print, piece: &[u8], line: &mut ArrayVec<u8, KEPT>) -> io::Result<()> {
     for byte in piece {
         if *byte == b'\n' {
-            answer(rt, &line[..kept])?;
-            kept = 0;
-        } else if kept < line.len() {
-            line[kept] = *byte;
-            kept += 1;
+            answer(rt, line.as_slice())?;
+            line.clear();
+        } else {
+            let _ = line.try_push(*byte);
         }
     }
-    Ok(kept)
+    Ok(())
 }
 
 // A read that fails is the input's end.
-fn read_some(from: &mut impl Read, input: &mut [u8]) -> usize
-    ensures { IsPrefixLen result input.new }
-{
-    from.read(input).unwrap_or(0)
+fn read_some<'a>(from: &mut impl Read, input: &'a mut [u8]) -> &'a [u8] {
+    let got = from.read(input).unwrap_or(0);
+    &input[..got]
 }
 
-// Answers every line that ends, and tells how many bytes are kept of what comes after the last line's end. A proved loop has to end, and
+// Answers every line that ends, and keeps of what comes after the last line's end. A proved loop has to end, and
 // nothing says that the input does: the turns are more than any run takes.
 fn take_input(
     rt: &impl Print,
     from: &mut impl Read,
     input: &mut [u8],
-    line: &mut [u8],
-) -> io::Result<usize>
-    ensures kept { IfOk result (λ kept. IsPrefixLen kept line.new) }
-    ensures same_room { length line.new ≡ length line.old }
-{
-    let mut kept = 0;
+    line: &mut ArrayVec<u8, KEPT>,
+) -> io::Result<()> {
     for _ in 0..u64::MAX {
-        let got = read_some(from, input);
-        if got == 0 {
+        let piece = read_some(from, input);
+        if piece.is_empty() {
             break;
         }
-        kept = take_piece(rt, &input[..got], line, kept)?;
+        take_piece(rt, piece, line)?;
     }
-    Ok(kept)
-}
-
-// Room for more than the longest text: of a longer line these bytes decide the answer (`enough_kept`).
-fn line_room() -> [u8; KEPT]
-    ensures { (64 ≡ length result) × (longest_text < length result) }
-{
-    [0; KEPT]
+    Ok(())
 }
 
 // Room for much input at once: a loop over small pieces would spend its time on calls.
 const INPUT: usize = 65536;
 
-fn input_room() -> [u8; INPUT]
-    ensures { 65536 ≡ length result }
-{
+fn input_room() -> [u8; INPUT] {
     [0; INPUT]
 }
 
 fn main(rt: HostRuntime) -> io::Result<()> {
     let mut input = input_room();
-    let mut line = line_room();
-    let kept = take_input(&rt, &mut rt.stdin(), &mut input, &mut line)?;
-    if kept > 0 {
-        answer(&rt, &line[..kept])?;
+    let mut line = no_line();
+    take_input(&rt, &mut rt.stdin(), &mut input, &mut line)?;
+    if !line.is_empty() {
+        answer(&rt, line.as_slice())?;
     }
     Ok(())
 }
