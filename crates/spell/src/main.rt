@@ -47,12 +47,6 @@ fn word_in(line: &[u8]) -> Option<u32>
 // Room for any answer: the longest text has 61 bytes, and a line's end one.
 const ROOM: usize = 64;
 
-fn room() -> [u8; ROOM]
-    ensures { 64 ≡ length result }
-{
-    [0; ROOM]
-}
-
 fn ended(piece: &[u8]) -> ArrayVec<u8, ROOM>
     requires { length piece.now < 64 }
     ensures { result.items ≡ piece.now ++ text "\n" }
@@ -67,7 +61,7 @@ fn ended(piece: &[u8]) -> ArrayVec<u8, ROOM>
 fn text_of(word: u32) -> ArrayVec<u8, ROOM>
     ensures { result.items ≡ word_text (decode_paper all_on word) ++ text "\n" }
 {
-    let mut room = room();
+    let mut room = [0; ROOM];
     match spelling::print(ALL_ON, word, &mut room) {
         Ok(n) => ended(&room[..n]),
         Err(_) => ended(b"refused 3"),
@@ -152,12 +146,8 @@ fn take_input(
 // Room for much input at once: a loop over small pieces would spend its time on calls.
 const INPUT: usize = 65536;
 
-fn input_room() -> [u8; INPUT] {
-    [0; INPUT]
-}
-
 fn main(rt: HostRuntime) -> io::Result<()> {
-    let mut input = input_room();
+    let mut input = [0; INPUT];
     let mut line = no_line();
     take_input(&rt, &mut rt.stdin(), &mut input, &mut line)?;
     if !line.is_empty() {

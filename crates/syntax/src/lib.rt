@@ -84,18 +84,11 @@ fn first(c: u8, a: u8, b: u8) -> (u32, usize)
     (digit * 10 + u32::from(b - b'0'), 2)
 }
 
-// A function of its own: of an array that a call returns the prover knows the length, and of one that it sees made it counts the elements.
-fn no_values() -> [u32; 26]
-    ensures { result ≡ replicate 26 0 }
-{
-    [0; 26]
-}
-
 // The values of the row's letters in a text that fits the row. A letter that the row lacks has 0.
 pub fn scan(text: &[u8], row: &[u8]) -> Option<[u32; 26]>
     ensures { result ≡ cond (fits row.now text.now) (Some (taken row.now text.now (replicate 26 0))) None }
 {
-    let mut values = no_values();
+    let mut values = [0; 26];
     let mut at = 0;
     for c in row {
         let a = byte_at(text, at);
