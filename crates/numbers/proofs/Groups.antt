@@ -38,10 +38,6 @@ fifth_great k b s e h = simp (eq-eqb k 4 e, lt-ltb 15 b h)
 not_zero : (k b : ℕ) → (b ≡ 0 → k ≡ 0) → (eqb b 0 && ltb 0 k) ≡ false
 not_zero k b h = failed _ (λ e. let p = both (eqb b 0) (ltb 0 k) e in omega (arith, h (eqb-true b 0 p.0), ltb-true 0 k p.1))
 
--- a count above some number is not 0
-pub several : (n k : ℕ) → ltb n k ≡ true → 0 < k
-several n k e = omega (arith, ltb-true n k e)
-
 pub zero_last : (k b : ℕ) (s : List ℕ) → ltb (greatest_byte k) b ≡ false → b ≡ 0 → 0 < k → numeral k (b ∷ s) ≡ wrong
 unfolding numeral
 zero_last k b s f e h = simp (f, lt-ltb b 128 (omega arith), eq-eqb b 0 e, lt-ltb 0 k h)

@@ -7,9 +7,8 @@ use mathlib.Core.Logic.{◌⊎◌, ⊎_elim}
 use mathlib.Core.Bool.{false}
 use lib.Dec.{ltb}
 use lib.ListN.{get_or}
-use borrow.Author.Tests.{lt-ltb}
 use Rattle.numbers.specs.Numbers.{greatest_byte}
-use Rattle.numbers.proofs.Groups.{fits_fifth, fits_other, fifth_great, several, zero_last, last_group, group_follows}
+use Rattle.numbers.proofs.Groups.{fits_fifth, fits_other, fifth_great, zero_last, last_group, group_follows}
 use Rattle.numbers.proofs.Turns.{Reading, byte_first, Follows, follows, last_fits, out_ends, out-wrong, out_read, turn}
 use Rattle.numbers.proofs.read_number.Goals as goal
 
@@ -53,7 +52,7 @@ pub returns-then-groups-gt0 : goal.returns-then-groups-gt0
 returns-then-groups-gt0 c =
     out-wrong c.loop-i.invariant
     (byte_first _ _ _ c.if-list-i.false
-    ∙ zero_last _ _ _ (passed _ _ (c.type_inv.list c.loop-i.i).fits c.else-groups-eq4.either) c.if-byte-eq0.true (several _ _ (lt-ltb _ _ c.if-groups-gt0.true)))
+    ∙ zero_last _ _ _ (passed _ _ (c.type_inv.list c.loop-i.i).fits c.else-groups-eq4.either) c.if-byte-eq0.true c.if-groups-gt0.true)
 
 pub returns-else-byte-eq0 : goal.returns-else-byte-eq0
 returns-else-byte-eq0 c =
