@@ -1,14 +1,12 @@
--- Pieces of text in room that is lent: a piece after a piece, and the loops that write one. Assumes nothing.
-use Prim.Native.Nat.{ℕ, zero, suc, ◌+◌, ◌-◌, ◌/◌, ◌%◌, ◌≤◌, ◌<◌}
-use native.Mathlib.Nat.{add-zero}
+-- Pieces of text in room that is lent: a piece after a piece. Assumes nothing.
+use Prim.Native.Nat.{ℕ, ◌+◌, ◌≤◌}
 use native.Mathlib.Omega.{arith}
-use mathlib.Core.Path.{◌≡◌, refl, sym, ap, ◌∙◌}
-use mathlib.Core.List.{List, [], ◌∷◌, ◌++◌, append_assoc, append-nil}
-use lib.ListN.{length, get_or, set, take, drop, length-append, length-drop, take-append-drop, drop_of_length-le}
-use lib.Seq.{length-take-le, take-length, take-suc, drop-cons, append_snoc, take-take, get_or-take, set_at, take_at, drop_at, get_or_at, paste}
+use mathlib.Core.Path.{◌≡◌, sym, ap, ◌∙◌}
+use mathlib.Core.List.{List, ◌++◌, append_assoc}
+use lib.ListN.{length, take, drop, length-append, length-drop}
+use lib.Seq.{length-take-le, take_at, drop_at}
 use Rattle.laws.proofs.Lists.{drop_more}
-use Rattle.pieces.specs.Pieces.{Wrote, Stands, glyph_of, digits}
-use Rattle.pieces.proofs.Digits.{length_digits}
+use Rattle.pieces.specs.Pieces.{Wrote, Stands}
 
 -- ---- a piece after a piece
 
@@ -46,11 +44,6 @@ and_then {t} {u} {at} {r} {q} {out₀} {out₁} {out₂} x y =
 pub said : {t u : List ℕ} {at r : ℕ} {out out' : List ℕ} → t ≡ u → Wrote t at out out' r → Wrote u at out out' r
 said e w = rw (← e) w
 
-pub nothing : (at : ℕ) (out : List ℕ) → at ≤ length out → Wrote [] at out out at
-nothing at out h =
-    let none : at + length {A = ℕ} [] ≡ at = omega arith in
-    record { ends = sym none; fits = h; bytes = rw (none, append-nil) (sym (take-append-drop at out)) }
-
 -- any two answers that `Wrote` allows are equal, and so is the room at the end
 pub wrote_unique : {t : List ℕ} {at r q : ℕ} {out out₁ out₂ : List ℕ} → Wrote t at out out₁ r → Wrote t at out out₂ q → (r ≡ q) × (out₁ ≡ out₂)
 wrote_unique x y = (x.ends ∙ sym y.ends, x.bytes ∙ sym y.bytes)
@@ -64,72 +57,3 @@ ends_inside {r = r} {out' = out'} w =
 -- a piece at place 0 stands at the start
 pub stands : {t room room' : List ℕ} {r : ℕ} → Wrote t 0 room room' r → Stands t room room' r
 stands w = let e = ends_inside w in record { inside = e.0; counted = e.1; is = before_end w; same_room = same_room w }
-
--- ---- a text that is copied
-
-pub copied : (out : List ℕ) (at : ℕ) (t : List ℕ) → at + length t ≤ length out → Wrote t at out (paste out at t (length t)) (at + length t)
-copied out at t h = record { ends = refl; fits = h; bytes = rw (take-length t) }
-
--- ---- digits, the last of them first
-
--- of the text t, all but its first i bytes stand in their place
-abbrev pub Placed : List ℕ → ℕ → List ℕ → ℕ → List ℕ → Type 0
-Placed t at l i out = out ≡ take (at + i) l ++ drop i t ++ drop (at + length t) l
-
-pub none_placed : (t : List ℕ) (at : ℕ) (l : List ℕ) (i : ℕ) → i ≡ length t → Placed t at l i l
-none_placed t at l i e = rw (e, drop_of_length-le t {i = length t} (omega arith), append-nil) (sym (take-append-drop (at + length t) l))
-
-one_placed : (t : List ℕ) (at : ℕ) (l : List ℕ) (j c : ℕ) (out : List ℕ) → at + length t ≤ length l → j < length t → c ≡ get_or t j 0
-    → Placed t at l (suc j) out → Placed t at l j (set out (at + j) c)
-one_placed t at l j c out room h ec p =
-    let rest = drop (suc j) t ++ drop (at + length t) l in
-    let old = get_or l (at + j) 0 in
-    let s : at + suc j ≡ suc (at + j) = omega arith in
-    let inside : at + j < length l = omega arith in
-    let split : out ≡ take (at + j) l ++ (old ∷ rest) =
-    p ∙ append_assoc (take (at + suc j) l) (drop (suc j) t) (drop (at + length t) l)
-    ∙ ap (λ (k : ℕ). take k l ++ rest) s
-    ∙ ap (λ (x : List ℕ). x ++ rest) (take-suc l (at + j) 0 inside)
-    ∙ append_snoc (take (at + j) l) old rest in
-    ap (λ (x : List ℕ). set x (at + j) c) split
-    ∙ set_at (take (at + j) l) old rest c (at + j) (length-take-le (at + j) l (omega arith))
-    ∙ ap (λ (x : ℕ). take (at + j) l ++ (x ∷ rest)) ec
-    ∙ ap (λ (x : List ℕ). take (at + j) l ++ (x ++ drop (at + length t) l)) (sym (drop-cons t j 0 h))
-    ∙ sym (append_assoc (take (at + j) l) (drop j t) (drop (at + length t) l))
-
-pub all_placed : (t : List ℕ) (at : ℕ) (l out : List ℕ) → at + length t ≤ length l → Placed t at l 0 out → Wrote t at l out (at + length t)
-all_placed t at l out room p = record { ends = refl; fits = room; bytes = rw (add-zero at) at p }
-
--- the first i bytes of t, which are still due, are the last i digits of the rest
-abbrev pub Due : List ℕ → ℕ → ℕ → ℕ → Type 0
-Due t b i rest = take i t ≡ digits b i rest
-
-pub all_due : (b k n : ℕ) → Due (digits b k n) b k n
-all_due b k n = ap (λ (i : ℕ). take i (digits b k n)) (sym (length_digits b k n)) ∙ take-length (digits b k n)
-
-last_due : (t : List ℕ) (b j rest : ℕ) → Due t b (suc j) rest → take (suc j) t ≡ digits b j (rest / b) ++ glyph_of (rest % b) ∷ []
-unfolding digits
-last_due t b j rest d = d
-
-digit_due : (t : List ℕ) (b j rest : ℕ) → Due t b (suc j) rest → glyph_of (rest % b) ≡ get_or t j 0
-digit_due t b j rest d =
-    sym (get_or_at (digits b j (rest / b)) (glyph_of (rest % b)) [] 0 j (length_digits b j (rest / b)))
-    ∙ ap (λ (x : List ℕ). get_or x j 0) (sym (last_due t b j rest d))
-    ∙ get_or-take (suc j) t j 0 (omega arith)
-
-still_due : (t : List ℕ) (b j rest : ℕ) → Due t b (suc j) rest → Due t b j (rest / b)
-still_due t b j rest d =
-    sym (take-take j (suc j) t (omega arith))
-    ∙ ap (take j) (last_due t b j rest d)
-    ∙ take_at (digits b j (rest / b)) (glyph_of (rest % b) ∷ []) j (length_digits b j (rest / b))
-
--- a turn of the loop
-pub one_more : (b k n at i rest c : ℕ) (l out : List ℕ) → at + k ≤ length l → 0 < i → i ≤ k → c ≡ glyph_of (rest % b)
-    → Placed (digits b k n) at l i out → Due (digits b k n) b i rest
-    → Placed (digits b k n) at l (i - 1) (set out (at + (i - 1)) c) × Due (digits b k n) b (i - 1) (rest / b)
-one_more b k n at zero rest c l out room some below ec p d = absurd (omega arith)
-one_more b k n at (suc j) rest c l out room some below ec p d =
-    let t = digits b k n in
-    let less : suc j - 1 ≡ j = omega arith in
-    let count = length_digits b k n in
-    rw less (one_placed t at l j c out (omega arith) (omega arith) (ec ∙ digit_due t b j rest d) p, still_due t b j rest d)
