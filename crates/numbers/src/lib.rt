@@ -8,14 +8,14 @@ ghost use Rattle.numbers.specs.Numbers.{number_at, answer_of, place_after, numbe
 use settings::Refusal;
 
 // A number of a list, and the place after it.
-#[derive(Clone, Copy)]
+#[derive(Clone, Copy, PartialEq, Eq)]
 pub struct Number {
     pub value: u32,
     pub next: usize,
 }
 
 // What is wrong, and where: of a number, the place of its first byte.
-#[derive(Clone, Copy)]
+#[derive(Clone, Copy, PartialEq, Eq)]
 pub struct Fault {
     pub refusal: Refusal,
     pub place: usize,
