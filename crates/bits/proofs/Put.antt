@@ -8,13 +8,13 @@ use lib.ListN.{length, get_or, take, drop, length-append}
 use lib.Arith.{digits_div, digits_mod}
 use lib.Bits.{differ}
 use Rattle.elements.specs.Elements.{element_at, element, put_at, splice}
-use Rattle.elements.proofs.Elements.{Bytes, pow256, element_at_lt, element_at_same, element_at_put_after, length_put, put_after}
+use Rattle.elements.proofs.Elements.{Bytes, pow256, element_at_lt, element_at_same, length_put, put_after}
 use Rattle.elements.proofs.Vectors.{put_each, put_each_turn, put_each_after, put_each-splice, length-put_each, vector_own}
 use Rattle.elements.proofs.Files.{length-splice, drop-splice, splice_behind}
-use Rattle.bits.specs.Bits.{over_bits, over_bytes, rose, fell, rises, falls}
+use Rattle.bits.specs.Bits.{over_bits, over_bytes, rose, fell, rises, falls, toggles, word_toggles}
 use Rattle.bits.specs.Replace.{Replaced}
 use Rattle.bits.specs.declared.Toggles.{Toggles}
-use Rattle.bits.proofs.Bits.{Unmoved, differ_unmoved, rose_unmoved, fell_unmoved, differ_once, bits_split, bits_mod, bits_same, bytes_same, bytes-set, bytes_splice_add, bytes_splice_le, toggled_differs}
+use Rattle.bits.proofs.Bits.{Unmoved, differ_unmoved, rose_unmoved, fell_unmoved, differ_once, bits_split, bits_mod, bits_same, bytes-set, bytes_splice_add, bytes_splice_le, toggled_differs, rises_same, falls_same}
 
 module _ (f : ℕ → ℕ → ℕ) where
   -- the bits of one byte more
@@ -39,6 +39,10 @@ module _ (f : ℕ → ℕ → ℕ) where
       rw (put_after at v t k (at + k) (le_refl _), ag k (le_refl _)) (bits_same f same 8 _) in
       bytes-set f s u (at + k) (v / 256 ^ k % 256) (rw length_put e) (rw length_put (omega arith)) z
       ∙ rw (bytes_put same k at v s t e b (omega arith) (λ i q. ag i (omega arith)), bits_byte k (element_at k at s) (get_or s (at + k) 0) v (element_at_lt k at s b) (b (at + k))) (add_assoc _ _ _)
+
+-- two numbers of toggles are the same where both parts are
+pub same_toggles : (t u : Toggles) → t.rises ≡ u.rises → t.falls ≡ u.falls → t ≡ u
+same_toggles t u er ef = ap₂ {A = ℕ} {B = ℕ} {C = Toggles} (λ r f. record { rises = r; falls = f }) er ef
 
 -- ---- replace
 
@@ -89,35 +93,58 @@ module _ (file₀ new : List ℕ) (at : ℕ) (fit : at + length new ≤ length f
             omega (arith, eu, ed, toggled_differs file₀ file, ap (over_bytes differ file₀) after, bytes_splice_le differ differ_once differ_unmoved at new file₀ fit);
       }
 
--- ---- two words
+-- ---- word by word
 
--- 16 new bytes, of which all is read before any is written: r bits rose, and d fell
+-- the parts of a turn and of the end, where the loop counts words and sums their toggles
+module _ (file₀ new : List ℕ) (at : ℕ) (fit : at + length new ≤ length file₀) (eights : length new % 8 ≡ 0) where
+  pub word_turn : (c : ℕ) (t u t' : Toggles) (after : ℕ) (file file' : List ℕ) → Bytes file₀ → 8 * c < length new → Upto file₀ new at (8 * c) file
+      → t ≡ toggles file₀ file → after ≡ element_at 8 (8 * c) new → u ≡ word_toggles (element_at 8 (at + 8 * c) file) after
+      → (t'.rises ≡ t.rises + u.rises) × (t'.falls ≡ t.falls + u.falls) → file' ≡ put_at 8 (at + 8 * c) after file
+      → Upto file₀ new at (8 * (c + 1)) file' × (t' ≡ toggles file₀ file') × (length file' ≡ length file₀)
+  word_turn c t u t' after file file' by h up et ea eu es ef =
+      let more : 8 * c + 8 ≡ 8 * (c + 1) = omega arith in
+      let T = turn file₀ new at fit eights (8 * c) (element_at 8 (at + 8 * c) file) after file file' by (omega arith) h up refl ea ef in (
+        rw more at T.upto,
+        same_toggles t' (toggles file₀ file')
+            (es.0 ∙ ap₂ ◌+◌ (ap (λ (b : Toggles). b.rises) et) (ap (λ (b : Toggles). b.rises) eu) ∙ T.counts rose rose_unmoved)
+            (es.1 ∙ ap₂ ◌+◌ (ap (λ (b : Toggles). b.falls) et) (ap (λ (b : Toggles). b.falls) eu) ∙ T.counts fell fell_unmoved),
+        T.long,
+      )
+
+  pub word_end : (c : ℕ) (t : Toggles) (file : List ℕ) → Bytes new → 8 * c ≡ length new → Upto file₀ new at (8 * c) file → t ≡ toggles file₀ file
+      → Replaced at t new file₀ file
+  word_end c t file by h up et =
+      all file₀ new at fit eights (8 * c) t.rises t.falls file by (omega arith) (omega arith) (omega arith) up
+      (ap (λ (b : Toggles). b.rises) et) (ap (λ (b : Toggles). b.falls) et)
+
+-- at the start nothing has changed
+pub none_yet : (s : List ℕ) (t : Toggles) → (t.rises ≡ 0) → (t.falls ≡ 0) → t ≡ toggles s s
+none_yet s t r f = same_toggles t (toggles s s) (r ∙ sym (rises_same s)) (f ∙ sym (falls_same s))
+
+-- 16 new bytes, of which all is read before any is written
 pub both : (file₀ new : List ℕ) (at : ℕ) → at + 16 ≤ length file₀ → length new ≡ 16 → Bytes file₀ → Bytes new
-    → (before before' after after' r d : ℕ) (file file' : List ℕ) → before ≡ element_at 8 at file₀ → before' ≡ element_at 8 (at + 8) file₀
-    → after ≡ element_at 8 0 new → after' ≡ element_at 8 8 new → file ≡ put_at 8 at after file₀ → file' ≡ put_at 8 (at + 8) after' file
-    → r ≡ over_bits rose 64 before after + over_bits rose 64 before' after' → d ≡ over_bits fell 64 before after + over_bits fell 64 before' after'
-    → Replaced at (record { rises = r; falls = d }) new file₀ file'
+    → (u v t : Toggles) (after after' : ℕ) (file file' : List ℕ) → after ≡ element_at 8 0 new → after' ≡ element_at 8 8 new
+    → u ≡ word_toggles (element_at 8 at file₀) after → file ≡ put_at 8 at after file₀
+    → v ≡ word_toggles (element_at 8 (at + 8) file) after' → file' ≡ put_at 8 (at + 8) after' file
+    → (t.rises ≡ u.rises + v.rises) × (t.falls ≡ u.falls + v.falls) → Replaced at t new file₀ file'
 unfolding put_each
-both file₀ new at fit long by by' before before' after after' r d file file' eb eb' ea ea' ef ef' er ed =
+both file₀ new at fit long by by' u v t after after' file file' ea ea' eu ef ev ef' es =
     let room : at + length new ≤ length file₀ = omega arith in
     let eights : length new % 8 ≡ 0 = omega arith in
-    let none : at ≡ at + 0 = sym (add-zero at) in
-    let T =
-    turn file₀ new at room eights 0 before after file₀ file by refl (omega arith) refl (eb ∙ ap (λ (k : ℕ). element_at 8 k file₀) none) ea
-    (ef ∙ ap (λ (k : ℕ). put_at 8 k after file₀) none) in
-    let kept : before' ≡ element_at 8 (at + 8) file = eb' ∙ sym (ap (element_at 8 (at + 8)) ef ∙ element_at_put_after at after file₀ 8 8 (at + 8) (omega arith)) in
-    let R = turn file₀ new at room eights 8 before' after' file file' by refl (omega arith) T.upto kept ea' ef' in
-    let counts : (f : ℕ → ℕ → ℕ) → Unmoved f → over_bits f 64 before after + over_bits f 64 before' after' ≡ over_bytes f file₀ file' =
-    λ f same. omega (arith, bytes_same f same file₀, T.counts f same, R.counts f same) in
-    all file₀ new at room eights 16 r d file' by' refl (omega arith) (omega arith) R.upto
-    (er ∙ counts rose rose_unmoved) (ed ∙ counts fell fell_unmoved)
+    let here : at ≡ at + 0 = sym (add-zero at) in
+    let none : Toggles = record { rises = 0; falls = 0 } in
+    let first =
+    word_turn file₀ new at room eights 0 none u u after file₀ file by (omega arith) refl (none_yet file₀ none refl refl) ea
+    (eu ∙ ap (λ (k : ℕ). word_toggles (element_at 8 k file₀) after) here) (omega arith, omega arith) (ef ∙ ap (λ (k : ℕ). put_at 8 k after file₀) here) in
+    let second = word_turn file₀ new at room eights 1 u v t after' file file' by (omega arith) first.0 first.1 ea' ev es ef' in
+    word_end file₀ new at room eights 2 t file' by' (sym long) second.0 second.1
 
 -- ---- two parts
 
 -- bytes that are replaced right behind others, after them
-pub behind : (at : ℕ) (t u : Toggles) (x y s s' s'' : List ℕ) → at + length x + length y ≤ length s → Replaced at t x s s' → Replaced (at + length x) u y s' s''
-    → Replaced at (record { rises = t.rises + u.rises; falls = t.falls + u.falls }) (x ++ y) s s''
-behind at t u x y s s' s'' fit p q =
+pub behind : (at : ℕ) (t u v : Toggles) (x y s s' s'' : List ℕ) → at + length x + length y ≤ length s → Replaced at t x s s' → Replaced (at + length x) u y s' s''
+    → (v.rises ≡ t.rises + u.rises) × (v.falls ≡ t.falls + u.falls) → Replaced at v (x ++ y) s s''
+behind at t u v x y s s' s'' fit p q e =
     let room : at + length x ≤ length s = omega arith in
     let long : length s' ≡ length s = rw p.after (length-splice at x s room) in
     let agree : take (length y) (drop (at + length x) s') ≡ take (length y) (drop (at + length x) s) =
@@ -127,8 +154,8 @@ behind at t u x y s s' s'' fit p q =
     record {
       after = q.after ∙ ap (splice (at + length x) y) p.after ∙ splice_behind at x y s room;
       bits =
-          ap₂ {A = ℕ} {B = ℕ} {C = Toggles} (λ r f. record { rises = r; falls = f })
-          (ap₂ ◌+◌ (ap (λ (b : Toggles). b.rises) p.bits) (ap (λ (b : Toggles). b.rises) q.bits) ∙ sum rose rose_unmoved)
-          (ap₂ ◌+◌ (ap (λ (b : Toggles). b.falls) p.bits) (ap (λ (b : Toggles). b.falls) q.bits) ∙ sum fell fell_unmoved);
-      few = omega (arith, p.few, q.few, length-append x y);
+          same_toggles v (toggles s s'')
+          (e.0 ∙ ap₂ ◌+◌ (ap (λ (b : Toggles). b.rises) p.bits) (ap (λ (b : Toggles). b.rises) q.bits) ∙ sum rose rose_unmoved)
+          (e.1 ∙ ap₂ ◌+◌ (ap (λ (b : Toggles). b.falls) p.bits) (ap (λ (b : Toggles). b.falls) q.bits) ∙ sum fell fell_unmoved);
+      few = omega (arith, e.0, e.1, p.few, q.few, length-append x y);
     }

@@ -37,6 +37,10 @@ toggled before after = rises before after + falls before after
 abbrev pub toggles : List ℕ → List ℕ → Toggles
 toggles before after = record { rises = rises before after; falls = falls before after }
 
+-- the bits of eight bytes that rise and fall, where they are one number and become another
+abbrev pub word_toggles : ℕ → ℕ → Toggles
+word_toggles before after = record { rises = over_bits rose 64 before after; falls = over_bits fell 64 before after }
+
 -- ---- one list
 
 -- how many of its bits are 1, and how many are 0

@@ -1,29 +1,69 @@
 #![tactic(auto)]
 
-ghost use Rattle.std.specs.Prelude.{◌≡◌, ◌+◌, ◌%◌, ◌≤◌, length};
-ghost use Rattle.bits.specs.Bits.{over_bits, rose, fell};
-ghost use Rattle.bits.specs.Replace.{Replaced, Cleared};
+ghost use Rattle.std.specs.Prelude.{◌≡◌, ◌+◌, ◌%◌, ◌^◌, ◌<◌, ◌≤◌, length};
+ghost use Rattle.elements.specs.Elements.{element_at, put_at, zeros};
+ghost use Rattle.bits.specs.Bits.{word_toggles};
+ghost use Rattle.bits.specs.Replace.{Replaced};
+
+use std::ops::{Add, AddAssign};
 
 // The bits that changed: those that rose, from 0 to 1, and those that fell. They have 64 bits, as the words that are counted, so that the compiler keeps
 // the two sums side by side.
-#[derive(Clone, Copy)]
+#[derive(Clone, Copy, Default)]
 pub struct Toggles {
     pub rises: u64,
     pub falls: u64,
 }
 
-// The ones of old XOR new that are ones in the new word: how many bits of eight bytes rose.
-pub fn risen(before: u64, after: u64) -> u64
-    ensures { (result ≡ over_bits rose 64 before after) × (result ≤ 64) }
-{
-    u64::count_ones((before ^ after) & after) as u64
+impl Toggles {
+    // Those of eight bytes. Of the ones of old XOR new, those that are ones in the new word rose, and those that are ones in the old word fell.
+    pub fn of_word(before: u64, after: u64) -> Toggles
+        ensures value { result ≡ word_toggles before after }
+        ensures few { (result.rises ≤ 64) × (result.falls ≤ 64) }
+    {
+        let changed = before ^ after;
+        Toggles {
+            rises: u64::from((changed & after).count_ones()),
+            falls: u64::from((changed & before).count_ones()),
+        }
+    }
 }
 
-// Those that are ones in the old word: how many fell.
-pub fn fallen(before: u64, after: u64) -> u64
-    ensures { (result ≡ over_bits fell 64 before after) × (result ≤ 64) }
+impl Add for Toggles {
+    type Output = Toggles;
+
+    ghost can_add = { λ t u. (t.rises + u.rises < 2 ^ 64) × (t.falls + u.falls < 2 ^ 64) };
+
+    ghost add_gives = { λ t u v. (v.rises ≡ t.rises + u.rises) × (v.falls ≡ t.falls + u.falls) };
+
+    fn add(self, more: Toggles) -> Toggles {
+        Toggles {
+            rises: self.rises + more.rises,
+            falls: self.falls + more.falls,
+        }
+    }
+}
+
+impl AddAssign for Toggles {
+    ghost can_add_assign = { λ t u. (t.rises + u.rises < 2 ^ 64) × (t.falls + u.falls < 2 ^ 64) };
+
+    ghost add_assign_gives = { λ t u v. (v.rises ≡ t.rises + u.rises) × (v.falls ≡ t.falls + u.falls) };
+
+    fn add_assign(&mut self, more: Toggles) {
+        *self = *self + more;
+    }
+}
+
+// Eight bytes of the file become those of a number. Answers which of their bits rose and fell.
+pub fn write(file: &mut [u8], at: usize, after: u64) -> Toggles
+    requires { at + 8 ≤ length file.old }
+    ensures new { file.new ≡ put_at 8 at after file.old }
+    ensures value { result ≡ word_toggles (element_at 8 at file.old) after }
+    ensures few { (result.rises ≤ 64) × (result.falls ≤ 64) }
 {
-    u64::count_ones((before ^ after) & before) as u64
+    let before = elements::read::<64>(file, at);
+    elements::put::<64>(file, at, after);
+    Toggles::of_word(before, after)
 }
 
 // The new bytes go into the file at a place. Answers how many bits of the file rose and how many fell, summed. It goes by eight bytes, which is why
@@ -33,36 +73,25 @@ pub fn replace(file: &mut [u8], at: usize, new: &[u8]) -> Toggles
     requires len { (length new.now % 8 ≡ 0) × (length new.now ≤ 65536) }
     ensures { Replaced at result new.now file.old file.new }
 {
-    let mut rises: u64 = 0;
-    let mut falls: u64 = 0;
-    let mut i: usize = 0;
-    while i < new.len() {
-        let before = elements::read8(file, at + i);
-        let after = elements::read8(new, i);
-        elements::put8(file, at + i, after);
-        rises += risen(before, after);
-        falls += fallen(before, after);
-        i += 8;
+    let mut toggles = Toggles::default();
+    for word in 0..new.len() / 8 {
+        let after = elements::read::<64>(new, 8 * word);
+        toggles += write(file, at + 8 * word, after);
     }
-    Toggles {
-        rises: rises,
-        falls: falls,
-    }
+    toggles
 }
 
-// The bytes of the file from a place on become zeros. Answers how many bits fell: none rises. It goes by eight bytes, as `replace` does.
-pub fn clear(file: &mut [u8], at: usize, bytes: usize) -> u64
+// The bytes of the file from a place on become zeros, and none of its bits rises. It goes by eight bytes, as `replace` does.
+// Kept: beside `replace`, since one function of both would take a closure for the new words, and be no plainer than two loops of two lines.
+pub fn clear(file: &mut [u8], at: usize, bytes: usize) -> Toggles
     requires bytes_in_bounds { at + bytes ≤ length file.old }
     requires bytes_value { (bytes % 8 ≡ 0) × (bytes ≤ 65536) }
-    ensures { Cleared at bytes result file.old file.new }
+    ensures { Replaced at result (zeros bytes) file.old file.new }
 {
-    let mut falls: u64 = 0;
-    let mut o: usize = 0;
-    while o < bytes {
-        let before = elements::read8(file, at + o);
-        elements::put8(file, at + o, 0);
-        falls += fallen(before, 0);
-        o += 8;
+    let mut toggles = Toggles::default();
+    for word in 0..bytes / 8 {
+        let cleared = write(file, at + 8 * word, 0);
+        toggles += cleared;
     }
-    falls
+    toggles
 }

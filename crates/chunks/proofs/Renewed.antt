@@ -1,23 +1,24 @@
 -- One turn that renews eight bytes in place, and a vector that is renewed so. Assumes nothing.
-use mathlib.Core.Path.{◌≡◌, refl, sym, ap, ◌∙◌}
-use mathlib.Core.Bool.{Bool}
+use mathlib.Core.Path.{◌≡◌, refl, sym, ◌∙◌}
+use mathlib.Core.Bool.{Bool, false}
+use mathlib.Core.Logic.{inl, inr}
 use mathlib.Core.List.{List}
 use Prim.Native.Nat.{ℕ, ◌+◌, ◌*◌, ◌/◌, ◌%◌, ◌<◌, ◌≤◌}
 use native.Mathlib.Omega.{arith}
 use lib.ListN.{length, drop}
 use Rattle.elements.specs.Elements.{element_at, put_at}
-use Rattle.elements.specs.Lanes.{IsLane, each, chosen_at}
+use Rattle.elements.specs.Lanes.{each, chosen_at}
 use Rattle.elements.proofs.Elements.{Bytes, element_at_same}
-use Rattle.elements.proofs.Lanes.{by_lane}
 use Rattle.elements.proofs.Vectors.{put_each, put_each_turn, put_each_end}
-use Rattle.lanes.specs.Lane.{lane_step, step}
+use Rattle.lanes.specs.Lane.{step}
 use Rattle.lanes.specs.Widths.{IsWidth}
-use Rattle.bits.specs.Bits.{rises, falls}
+use Rattle.bits.specs.Bits.{toggles, word_toggles}
 use Rattle.bits.specs.Replace.{Replaced}
-use Rattle.bits.proofs.Put.{Upto, Turned, untouched, turn, all}
+use Rattle.bits.specs.declared.Toggles.{Toggles}
+use Rattle.bits.proofs.Put.{Upto, untouched, word_turn, word_end}
 use Rattle.lanes.specs.Element.{new_element, new_bytes}
 use Rattle.lanes.proofs.Built.{new_element-at, length_new, Bytes-new_bytes}
-use Rattle.chunks.specs.Chunk.{evenly, even_bytes, chunk, OfArray}
+use Rattle.chunks.specs.Chunk.{evenly, even_bytes, chunk, OfArray, OfV}
 use Rattle.chunks.proofs.Parts.{by_array}
 use Rattle.chunks.proofs.Strides.{chunk-at}
 
@@ -30,26 +31,22 @@ module _ (lane wide : ℕ) (iw : IsWidth wide) (u s : Bool) (old : List ℕ) (at
   long = length_new (evenly lane wide u s sx sy) bytes (drop at old) (drop x z) (drop y z) iw eights
 
   -- one turn, from what its calls ensure
-  pub turned : (o before after px py : ℕ) (file file' : List ℕ) → o % 8 ≡ 0 → o < bytes → Upto old New at o file
-      → px ≡ x + chosen_at lane (each sx 0) (o / 8 * (64 / wide)) → py ≡ y + chosen_at lane (each sy 0) (o / 8 * (64 / wide))
-      → before ≡ element_at 8 (at + o) file → after ≡ chunk lane wide u s before z px dx py dy → file' ≡ put_at 8 (at + o) after file
-      → Turned old New at o before after file file'
-  turned o before after px py file file' h q up ex ey eb ea ef =
-      let c : ℕ = o / 8 in
-      let oc : 8 * c ≡ o = omega arith in
+  pub turned : (c : ℕ) (t v t' : Toggles) (before after px py : ℕ) (file file' : List ℕ) → 8 * c < bytes → Upto old New at (8 * c) file → t ≡ toggles old file
+      → px ≡ x + chosen_at lane (each sx 0) (c * (64 / wide)) → py ≡ y + chosen_at lane (each sy 0) (c * (64 / wide))
+      → before ≡ element_at 8 (at + 8 * c) file → after ≡ chunk lane wide u s before z px dx py dy
+      → v ≡ word_toggles (element_at 8 (at + 8 * c) file) after → (t'.rises ≡ t.rises + v.rises) × (t'.falls ≡ t.falls + v.falls)
+      → file' ≡ put_at 8 (at + 8 * c) after file
+      → Upto old New at (8 * (c + 1)) file' × (t' ≡ toggles old file') × (length file' ≡ length old)
+  turned c t v t' before after px py file file' h up et ex ey eb ea ev es ef =
       let own : before ≡ element_at 8 (at + 8 * c) old =
-      eb ∙ element_at_same 8 (at + o) (at + o) file old (λ j _. untouched old New at o file up j) ∙ ap (λ (k : ℕ). element_at 8 (at + k) old) (sym oc) in
-      let new : after ≡ element_at 8 o New =
-      ea
-      ∙ chunk-at lane wide iw u s old at z x sx dx y sy dy edx edy by c bytes before px py (omega arith) own ex ey
-      ∙ ap (λ (k : ℕ). element_at 8 k New) oc in
-      turn old New at (rw long fit) (rw long eights) o before after file file' by h (rw long q) up eb new ef
+      eb ∙ element_at_same 8 (at + 8 * c) (at + 8 * c) file old (λ j _. untouched old New at (8 * c) file up j) in
+      word_turn old New at (rw long fit) (rw long eights) c t v t' after file file' by (rw long h) up et
+      (ea ∙ chunk-at lane wide iw u s old at z x sx dx y sy dy edx edy by c bytes before px py (omega arith) own ex ey) ev es ef
 
   -- the end
-  pub whole : (o r d : ℕ) (file : List ℕ) → o % 8 ≡ 0 → o ≤ bytes → bytes ≤ o → Upto old New at o file → r ≡ rises old file → d ≡ falls old file
-      → Replaced at (record { rises = r; falls = d }) New old file
-  whole o r d file h l m up er ed =
-      all old New at (rw long fit) (rw long eights) o r d file (Bytes-new_bytes (evenly lane wide u s sx sy) bytes _ _ _) h (rw long l) (rw long m) up er ed
+  pub whole : (c : ℕ) (t : Toggles) (file : List ℕ) → 8 * c ≡ bytes → Upto old New at (8 * c) file → t ≡ toggles old file → Replaced at t New old file
+  whole c t file h up et =
+      word_end old New at (rw long fit) (rw long eights) c t file (Bytes-new_bytes (evenly lane wide u s sx sy) bytes _ _ _) (h ∙ sym long) up et
 
 -- ---- elements of 16 bits
 
@@ -58,11 +55,10 @@ module _ (u s : Bool) (z : List ℕ) (at x y sy : ℕ) where
   Own = new_element (evenly 8 16 u s 1 sy) (drop at z) (drop x z) (drop y z)
 
   -- a turn, from what its calls ensure
-  pub own_put : (e a px py o r : ℕ) (new out out' : List ℕ) → a ≡ at + e * 2 → px ≡ x + chosen_at 8 (each 1 0) e → py ≡ y + chosen_at 8 (each sy 0) e → o ≡ 0 + e * 2
-      → r ≡ lane_step 8 16 u s (element_at 2 a z) (element_at 1 px z) (element_at 1 py z)
+  pub own_put : (e p px py o r : ℕ) (new out out' : List ℕ) → p ≡ element_at 2 (at + e * 2) z → px ≡ x + chosen_at 8 (each 1 0) e → py ≡ y + chosen_at 8 (each sy 0) e
+      → o ≡ 0 + e * 2 → r ≡ step false 8 16 u s p (element_at 1 px z) (element_at 1 py z)
       → out ≡ put_each Own 2 0 e new → out' ≡ put_at 2 o r out → out' ≡ put_each Own 2 0 (e + 1) new
-  unfolding step
-  own_put e a px py o r new out out' ea ex ey eo er ew ep =
+  own_put e p px py o r new out out' ea ex ey eo er ew ep =
       put_each_turn Own 2 0 e o r new out out' eo (rw (new_element-at (evenly 8 16 u s 1 sy) z at z x y e, ← ea, ← ex, ← ey) er) ew ep
 
   -- eight are the 16 bytes
@@ -76,17 +72,17 @@ module _ (u s : Bool) (z : List ℕ) (at x y sy : ℕ) where
 pub array_step : (lane wide : ℕ) → OfArray lane wide → wide / 8 ≡ wide / lane * (lane / 8)
 array_step = by_array (λ lane wide. wide / 8 ≡ wide / lane * (lane / 8)) refl refl refl
 
--- the chunk o bytes on begins at the same distance in a source
-pub array_place : (lane wide : ℕ) → OfArray lane wide → (x o : ℕ) → o % 8 ≡ 0 → x + o ≡ x + chosen_at lane (each (wide / lane) 0) (o / 8 * (64 / wide))
+-- chunk c begins at the same distance in a source
+pub array_place : (lane wide : ℕ) → OfArray lane wide → (x c : ℕ) → x + 8 * c ≡ x + chosen_at lane (each (wide / lane) 0) (c * (64 / wide))
 array_place =
-    by_array (λ lane wide. (x o : ℕ) → o % 8 ≡ 0 → x + o ≡ x + chosen_at lane (each (wide / lane) 0) (o / 8 * (64 / wide)))
-    (λ x o h. omega arith)
-    (λ x o h. omega arith)
-    (λ x o h. omega arith)
+    by_array (λ lane wide. (x c : ℕ) → x + 8 * c ≡ x + chosen_at lane (each (wide / lane) 0) (c * (64 / wide)))
+    (λ x c. omega arith)
+    (λ x c. omega arith)
+    (λ x c. omega arith)
 
 -- ---- the lanes of words that write a V register
 
 -- the second chunk's begin 4·sx bytes on
-pub v_place : (lane : ℕ) → IsLane lane → (x sx : ℕ) → x + 4 * sx ≡ x + chosen_at lane (each sx 0) (1 * (64 / (2 * lane)))
-v_place lane l x sx =
-    by_lane (λ n. x + 4 * sx ≡ x + chosen_at n (each sx 0) (1 * (64 / (2 * n)))) (omega arith) (omega arith) (omega arith) lane l
+pub v_place : (lane wide : ℕ) → OfV lane wide → (x sx : ℕ) → x + 4 * sx ≡ x + chosen_at lane (each sx 0) (1 * (64 / wide))
+v_place lane wide (inl (l, w)) x sx = rw (l, w) (omega arith)
+v_place lane wide (inr (l, w)) x sx = rw (l, w) (omega arith)

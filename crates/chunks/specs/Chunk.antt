@@ -4,6 +4,7 @@ use Rattle.std.specs.Prelude.{ℕ, zero, suc, ◌+◌, ◌-◌, ◌*◌, ◌/◌
 use Rattle.elements.specs.Lanes.{each, chosen_at}
 use Rattle.elements.specs.Elements.{element_at}
 use Rattle.lanes.specs.Lane.{lane_step}
+use Rattle.lanes.specs.Widths.{Widths}
 use Rattle.lanes.specs.Recipe.{Recipe, recipe}
 use Rattle.lanes.specs.Element.{new_bytes}
 use Rattle.chunks.specs.declared.Pair.{Pair}
@@ -47,6 +48,14 @@ Apart lane n z x dx = x + (n - 1) * dx + lane / 8 ≤ length z
 -- the lanes and elements of words that write ZA: D's of 8 and 32 bits or of 16 and 64, E's of 16 and 32
 abbrev pub OfArray : ℕ → ℕ → Type 0
 OfArray lane wide = ((lane ≡ 8) × (wide ≡ 32)) ⊎ (((lane ≡ 16) × (wide ≡ 64)) ⊎ ((lane ≡ 16) × (wide ≡ 32)))
+
+-- those of words that write a V register, of more than 8 bits
+abbrev pub OfV : ℕ → ℕ → Type 0
+OfV lane wide = ((lane ≡ 16) × (wide ≡ 32)) ⊎ ((lane ≡ 32) × (wide ≡ 64))
+
+-- of all of these: one element or two have eight bytes
+abbrev pub OfChunk : ℕ → ℕ → Type 0
+OfChunk lane wide = Widths lane wide × ((wide ≡ 32) ⊎ (wide ≡ 64))
 
 -- 16 bytes, in two words
 abbrev pub InPair : List ℕ → Pair → Type 0

@@ -1,16 +1,18 @@
 -- Elements in a list of bytes, for any width: their bounds, their bytes, and what is read after a write. Assumes nothing.
-use mathlib.Core.Path.{◌≡◌, refl, sym, ◌∙◌}
+use mathlib.Core.Path.{◌≡◌, refl, sym, ap, ◌∙◌}
 use mathlib.Core.List.{List, [], ◌∷◌, ◌++◌}
 use mathlib.Core.Logic.{⊎_elim}
 use Prim.Native.Nat.{ℕ, zero, suc, ◌+◌, ◌*◌, ◌/◌, ◌%◌, ◌^◌, ◌≤◌, ◌<◌}
-use native.Mathlib.Nat.{add-zero, add-suc, add_assoc, mul_assoc, mul_comm, mul-suc, add-mul, zero-mul, pow-suc, one-le-pow, mul-le-mul_right, eq-or-lt_of_le, le_refl, mod-one, mod-lt, div-div-eq-div-mul}
+use native.Mathlib.Nat.{add-zero, zero-add, add-suc, add_assoc, mul_assoc, mul_comm, mul-suc, add-mul, zero-mul, pow-suc, one-le-pow, mul-le-mul_right, eq-or-lt_of_le, le_refl, mod-one, mod-lt, div-div-eq-div-mul}
+use native.Mathlib.Numerals.{add-one}
 use native.Mathlib.Omega.{arith}
-use lib.ListN.{length, get_or, take, drop, length-set, length-replicate}
+use lib.ListN.{length, get_or, set, take, drop, length-set, length-replicate}
 use lib.Seq.{get_or-set_same, get_or-set_other, get_or-take, get_or-drop}
 use lib.Pow.{pow-add}
 use lib.Arith.{mod-mul}
 use lib.Dec.{lit<}
 pub use Rattle.elements.specs.Elements.{Bytes}
+use Rattle.std.specs.Int.{sum_through, byte_worth}
 use Rattle.elements.specs.Elements.{zeros, element_at, put_at, low_bytes, splice}
 
 -- ---- numbers of k bytes
@@ -100,6 +102,16 @@ element_at-drop k at d s = element_at_same k at (d + at) (drop d s) s (λ i q. r
 pub element_at-take : (k at w : ℕ) (s : List ℕ) → at + k ≤ w → element_at k at (take w s) ≡ element_at k at s
 element_at-take k at w s h = element_at_same k at at (take w s) s (λ i q. get_or-take w s (at + i) 0 (omega arith))
 
+-- the library reads the first k + 1 bytes of a list so
+pub sum_element : (k : ℕ) (s : List ℕ) → sum_through (λ i. byte_worth i (get_or s i 0)) k ≡ element_at (suc k) 0 s
+unfolding element_at
+sum_element zero s = omega arith
+sum_element (suc k) s = rw (sum_element k s, zero-add (suc k)) refl
+
+-- and those from `at` on, where they were copied
+pub copied_element : (k at : ℕ) (s : List ℕ) → element_at k 0 (take k (drop at s)) ≡ element_at k at s
+copied_element k at s = element_at-take k 0 k (drop at s) (omega arith) ∙ element_at-drop k 0 at s ∙ ap (λ (n : ℕ). element_at k n s) (add-zero at)
+
 -- the digits of v are v
 element_at_digits : (k at v : ℕ) (s : List ℕ) → ((i : ℕ) → i < k → get_or s (at + i) 0 ≡ v / 256 ^ i % 256) → element_at k at s ≡ v % 256 ^ k
 unfolding element_at
@@ -121,6 +133,11 @@ module _ (at v : ℕ) (s : List ℕ) where
   unfolding put_at
   length_put zero = refl
   length_put (suc k) = simp (length-set, length_put k)
+
+  -- a turn of the loop that writes: one byte more
+  pub put_turn : (i : ℕ) → set (put_at i at v s) (at + i) (v / 2 ^ (8 * i) % 256) ≡ put_at (i + 1) at v s
+  unfolding put_at
+  put_turn i = rw (← pow256 i, add-one) refl
 
   -- each byte: before, after, and in the place that is written
   put_before : (k i : ℕ) → i < at → get_or (put_at k at v s) i 0 ≡ get_or s i 0

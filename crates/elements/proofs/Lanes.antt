@@ -1,12 +1,12 @@
 -- The lanes that there are, and where those lie that are chosen. Assumes nothing.
 use mathlib.Core.Path.{◌≡◌, refl}
-use mathlib.Core.Logic.{◌⊎◌, inl, inr}
+use mathlib.Core.Logic.{◌⊎◌, inl, inr, ⊎_elim}
 use mathlib.Core.Bool.{Bool, true, false, cond}
 use Prim.Native.Nat.{ℕ, ◌+◌, ◌-◌, ◌*◌, ◌/◌, ◌<◌, ◌≤◌}
 use native.Mathlib.Nat.{mul-le-mul_left, mul-le-mul_right}
 use native.Mathlib.Omega.{arith}
 use Rattle.laws.proofs.Tests.{one_of_three}
-use Rattle.elements.specs.Lanes.{IsLane, Choice, each, segment_start, chosen, chosen_at, Reaches}
+use Rattle.elements.specs.Lanes.{IsLane, IsWidth, Choice, each, segment_start, chosen, chosen_at, Reaches}
 
 -- what holds of each lane holds of any
 pub by_lane : (P : ℕ → Type 0) → P 8 → P 16 → P 32 → (n : ℕ) → IsLane n → P n
@@ -20,6 +20,19 @@ last_lane = by_lane (λ n. (n ≡ 8 → ⊥) → (n ≡ 16 → ⊥) → n ≡ 32
 pub wider-lane : {lane : ℕ} → (lane ≡ 16) ⊎ (lane ≡ 32) → (lane ≡ 16 → ⊥) → lane ≡ 32
 wider-lane (inl e) n = absurd (n e)
 wider-lane (inr e) n = e
+
+-- what holds of each width holds of any
+pub by_width : (P : ℕ → Type 0) → P 8 → P 16 → P 32 → P 64 → (n : ℕ) → IsWidth n → P n
+by_width P a b c d n w = ⊎_elim (by_lane P a b c n) (λ (e : n ≡ 64). rw e d) w
+
+-- a width that no lane has
+pub last_width : (n : ℕ) → IsWidth n → (n ≡ 8 → ⊥) → (n ≡ 16 → ⊥) → (n ≡ 32 → ⊥) → n ≡ 64
+last_width =
+    by_width (λ n. (n ≡ 8 → ⊥) → (n ≡ 16 → ⊥) → (n ≡ 32 → ⊥) → n ≡ 64)
+    (λ f g h. absurd (f refl))
+    (λ f g h. absurd (g refl))
+    (λ f g h. absurd (h refl))
+    (λ f g h. refl)
 
 -- ---- every lane that is chosen lies in its register
 

@@ -5,6 +5,10 @@ use Rattle.std.specs.Prelude.{ℕ, ◌+◌, ◌-◌, ◌*◌, ◌/◌, ◌%◌, 
 abbrev pub IsLane : ℕ → Type 0
 IsLane bits = (bits ≡ 8) ⊎ ((bits ≡ 16) ⊎ (bits ≡ 32))
 
+-- an element has the bits of a lane, or 64
+abbrev pub IsWidth : ℕ → Type 0
+IsWidth bits = IsLane bits ⊎ (bits ≡ 64)
+
 -- which lane goes into element e: by·e + from; or by·s + from, where s is the first element of e's segment
 pub record Choice : Type 0 where
   pub by : ℕ

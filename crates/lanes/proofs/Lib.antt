@@ -1,7 +1,6 @@
 pub mod Integers
 pub mod Laws
 pub mod Widths
-pub mod Signs
 pub mod Wrapping
 pub mod Saturation
 pub mod Built

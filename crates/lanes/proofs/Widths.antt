@@ -1,7 +1,8 @@
 -- What the widths of a step are. Assumes nothing.
-use Rattle.std.proofs.Common.{◌≡◌, ℕ, zero, suc, ◌+◌, ◌-◌, ◌*◌, ◌^◌, ◌<◌, ◌≤◌, ◌⊎◌, refl, inl, inr, ⊎_elim, lt_of_lt_of_le, arith, pow_mono}
+use Rattle.std.proofs.Common.{◌≡◌, ℕ, zero, suc, ◌+◌, ◌-◌, ◌*◌, ◌^◌, ◌<◌, ◌≤◌, ◌⊎◌, refl, inl, inr, lt_of_lt_of_le, arith, pow_mono}
 use Rattle.elements.specs.Lanes.{IsLane}
 use Rattle.elements.proofs.Lanes.{by_lane}
+pub use Rattle.elements.proofs.Lanes.{by_width, last_width}
 use Rattle.lanes.specs.Widths.{IsWidth, Widths}
 
 -- ---- a lane
@@ -17,21 +18,8 @@ top_le lane l = let h : lane - 1 ≤ 31 = omega (arith, (lane_range lane l).1) i
 
 -- ---- any width
 
--- what holds of each width holds of any
-pub by_width : (P : ℕ → Type 0) → P 8 → P 16 → P 32 → P 64 → (n : ℕ) → IsWidth n → P n
-by_width P a b c d n w = ⊎_elim (by_lane P a b c n) (λ (e : n ≡ 64). rw e d) w
-
 pub width_range : (n : ℕ) → IsWidth n → (zero < n) × (n ≤ 64)
 width_range = by_width (λ n. (zero < n) × (n ≤ 64)) (omega arith, omega arith) (omega arith, omega arith) (omega arith, omega arith) (omega arith, omega arith)
-
--- a width that no lane has
-pub last_width : (n : ℕ) → IsWidth n → (n ≡ 8 → ⊥) → (n ≡ 16 → ⊥) → (n ≡ 32 → ⊥) → n ≡ 64
-last_width =
-    by_width (λ n. (n ≡ 8 → ⊥) → (n ≡ 16 → ⊥) → (n ≡ 32 → ⊥) → n ≡ 64)
-    (λ f g h. absurd (f refl))
-    (λ f g h. absurd (g refl))
-    (λ f g h. absurd (h refl))
-    (λ f g h. refl)
 
 -- 2 to n is twice the least number of n bits whose top bit is set
 pub two-halves : (n : ℕ) → zero < n → 2 ^ n ≡ 2 ^ (n - 1) + 2 ^ (n - 1)
@@ -39,9 +27,6 @@ two-halves zero h = absurd (omega arith)
 two-halves (suc n) h = let e : suc n - 1 ≡ n = omega arith in rw e (omega arith)
 
 -- ---- a lane and its accumulator
-
-pub wide_least : (lane wide : ℕ) → Widths lane wide → 16 ≤ wide
-wide_least lane wide w = omega (arith, (lane_range lane w.0).0, w.1.1)
 
 -- the accumulator of twice a lane's bits
 pub doubled : (lane : ℕ) → IsLane lane → Widths lane (2 * lane)

@@ -1,5 +1,4 @@
 pub mod Lane
-pub mod Signed
 pub mod Widths
 pub mod Examples
 pub mod Recipe

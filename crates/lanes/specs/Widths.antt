@@ -1,15 +1,8 @@
--- The widths that a step is asked for, and by how much the wrapping one raises its factors. Only contracts and proofs use this.
-use Rattle.std.specs.Prelude.{◌≡◌, ℕ, ◌+◌, ◌-◌, ◌^◌, ◌≤◌, Bool, cond, ◌⊎◌}
+-- The widths that a step is asked for. Only contracts and proofs use this.
+use Rattle.std.specs.Prelude.{ℕ, ◌+◌, ◌≤◌}
 use Rattle.elements.specs.Lanes.{IsLane}
-
--- an element has the bits of a lane, or 64
-abbrev pub IsWidth : ℕ → Type 0
-IsWidth bits = IsLane bits ⊎ (bits ≡ 64)
+pub use Rattle.elements.specs.Lanes.{IsWidth}
 
 -- the accumulator holds the product of two lanes, so that none has 8 bits
 abbrev pub Widths : ℕ → ℕ → Type 0
 Widths lane wide = IsLane lane × (IsWidth wide × (lane + lane ≤ wide))
-
--- what is added to the integer of a lane so that it is not negative
-abbrev pub raise : ℕ → Bool → ℕ
-raise lane unsigned = cond unsigned 0 (2 ^ (lane - 1))

@@ -1,6 +1,6 @@
 -- A vector that becomes new in its place; C's is built aside, and what is above a V register cleared. Assumes nothing.
 use Prim.Native.Nat.{ℕ, ◌+◌, ◌-◌, ◌*◌, ◌%◌, ◌≤◌, ◌<◌}
-use native.Mathlib.Nat.{add-zero, mul-le-mul}
+use native.Mathlib.Nat.{mul-le-mul}
 use native.Mathlib.Omega.{arith}
 use mathlib.Core.Path.{◌≡◌, refl, sym, ap, ◌∙◌, subst}
 use mathlib.Core.Logic.{◌≢◌, ◌⊎◌, inl, inr}
@@ -18,7 +18,7 @@ use Rattle.elements.proofs.Vectors.{within}
 use Rattle.elements.specs.Elements.{zeros}
 use Rattle.elements.proofs.Elements.{length-zeros}
 use Rattle.elements.proofs.Files.{next, room, length-splice}
-use Rattle.bits.specs.Replace.{Replaced, Cleared}
+use Rattle.bits.specs.Replace.{Replaced}
 use Rattle.bits.proofs.Put.{behind}
 use Rattle.bits.specs.declared.Toggles.{Toggles}
 use Rattle.lanes.specs.Recipe.{Recipe}
@@ -115,17 +115,19 @@ module _ {f : Fields} {w : ℕ} {z : List ℕ} (p : Sources f w z) where
       (omega (arith, p.width.whole), omega (arith, p.width.most)),
     )
 
-    module _ {c : ℕ} {z'' : List ℕ} (q : Cleared (f.destination * w + 16) (w - 16) c z' z'') where
-      pub falls_small : t.falls + c ≤ 2048
-      falls_small = omega (arith, r.few, q.few, sixteen, length-zeros (w - 16), p.width.most, p.width.least)
+    module _ {c : Toggles} {z'' : List ℕ} (q : Replaced (f.destination * w + 16) c (zeros (w - 16)) z' z'') where
+      pub counts_small : (t.rises + c.rises ≤ 4096) × (t.falls + c.falls ≤ 4096)
+      counts_small = (
+        omega (arith, r.few, q.few, sixteen, length-zeros (w - 16), p.width.most, p.width.least),
+        omega (arith, r.few, q.few, sixteen, length-zeros (w - 16), p.width.most, p.width.least),
+      )
 
-      pub all_written : RegisterWritten f w (record { rises = t.rises; falls = t.falls + c }) z z''
-      all_written =
+      pub all_written : (v : Toggles) → (v.rises ≡ t.rises + c.rises) × (v.falls ≡ t.falls + c.falls) → RegisterWritten f w v z z''
+      all_written v e =
           let at : ℕ = f.destination * w in
-          let above : Cleared (at + length renewed_bytes) (w - new_length f.family w) c z' z'' = rw (sixteen, v_length f w i) q in
-          rw add-zero at
-          (behind at t _ renewed_bytes (zeros (w - new_length f.family w)) z z' z''
-          (omega (arith, long_new, length-zeros (w - new_length f.family w), (new_length_lem f.family w p.width).1, register_there f.destination p.ranges.destination)) r above)
+          let above : Replaced (at + length renewed_bytes) c (zeros (w - new_length f.family w)) z' z'' = rw (sixteen, v_length f w i) q in
+          behind at t c v renewed_bytes (zeros (w - new_length f.family w)) z z' z''
+          (omega (arith, long_new, length-zeros (w - new_length f.family w), (new_length_lem f.family w p.width).1, register_there f.destination p.ranges.destination)) r above e
 
   -- where the new bytes are the whole register there is nothing above them to clear: in C, and in A and B where registers have 16 bytes
   pub none_above : new_length f.family w ≡ w → {t : Toggles} {z' : List ℕ} → RegisterRenewed f w t z z' → RegisterWritten f w t z z'

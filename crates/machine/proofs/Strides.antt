@@ -19,7 +19,7 @@ use Rattle.lanes.proofs.Widths.{lane_range, width_range}
 use Rattle.bits.specs.Replace.{Replaced}
 use Rattle.bits.specs.declared.Toggles.{Toggles}
 use Rattle.chunks.specs.Chunk.{even_bytes, Reach, OfArray}
-use Rattle.chunks.proofs.Parts.{array_widths}
+use Rattle.chunks.proofs.Parts.{array_chunk}
 use Rattle.chunks.proofs.Strides.{even_bytes_lem}
 use Rattle.recipes.specs.Recipe.{wrapping, recipe_of, new_length, per_source}
 use Rattle.lanes.specs.Element.{new_bytes, Inside}
@@ -120,7 +120,7 @@ module _ {f : Fields} {w : ℕ} {z za : List ℕ} (p : Places f w z za) (k : ℕ
   steps = mul-div_cancel k (omega (arith, lane_range f.lane p.sources.ranges.lane))
 
   pub wide_small : k * f.lane ≤ 64
-  wide_small = (width_range (k * f.lane) (array_widths f.lane (k * f.lane) of_array).1.0).1
+  wide_small = (width_range (k * f.lane) (array_chunk f.lane (k * f.lane) of_array).0.1.0).1
 
   module _ (r i : ℕ) (hr : r < f.group) (hi : i < k) where
     abbrev From : ℕ → ℕ

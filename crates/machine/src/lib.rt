@@ -17,6 +17,7 @@ ghost use Rattle.words.specs.Decode.{decode_paper};
 ghost use Rattle.words.specs.Kinds.{fields_as};
 
 use bits::Toggles;
+use lanes::Operation;
 use settings::{Features, Modes, Refusal, Settings};
 pub use tally::Counts;
 use words::{Family, Fields, Kind};
@@ -44,14 +45,16 @@ fn step_v(fields: Fields, w: usize, z: &mut [u8]) -> Toggles
     let at = fields.destination as usize * w;
     let x = fields.first as usize * w + part;
     let y = fields.second as usize * w;
-    let unsigned = fields.unsigned;
-    let subtract = fields.subtract;
+    let operation = Operation {
+        unsigned: fields.unsigned,
+        subtract: fields.subtract,
+    };
     match fields.family {
         Family::ByElement => {
             let index = fields.index as usize * (lane / 8);
-            chunks::renew_v(lane, unsigned, subtract, z, at, x, y + index, 0)
+            chunks::renew_v(lane, operation, z, at, x, y + index, 0)
         }
-        _ => chunks::renew_v(lane, unsigned, subtract, z, at, x, y + part, 1),
+        _ => chunks::renew_v(lane, operation, z, at, x, y + part, 1),
     }
 }
 
@@ -68,10 +71,7 @@ fn write_v(fields: Fields, w: usize, z: &mut [u8]) -> Toggles
     }
     let above = fields.destination as usize * w + 16;
     let cleared = bits::clear(z, above, w - 16);
-    Toggles {
-        rises: toggles.rises,
-        falls: toggles.falls + cleared,
-    }
+    toggles + cleared
 }
 
 // C: the destination becomes new. It is built aside, in room for the longest register, since it may be a source. Answers how many bits rose and fell.
@@ -112,9 +112,11 @@ fn step_vector<const K: usize>(
     let from = i * (lane / 8);
     let x = (fields.first as usize + r) * w + from;
     let y = (fields.second as usize + r) * w + from;
-    let unsigned = fields.unsigned;
-    let subtract = fields.subtract;
-    chunks::renew(lane, wide, unsigned, subtract, za, at, z, x, y, w)
+    let operation = Operation {
+        unsigned: fields.unsigned,
+        subtract: fields.subtract,
+    };
+    chunks::renew(lane, wide, operation, za, at, z, x, y, w)
 }
 
 // D, E: the vectors first + r·stride + i of ZA become new, for r below the group and i below K. Answers how many bits rose and fell.

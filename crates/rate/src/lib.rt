@@ -10,6 +10,6 @@ pub fn percent(toggled: u32, written: u32) -> u64
     if written == 0 {
         0
     } else {
-        100 * (toggled as u64) / (written as u64)
+        100 * u64::from(toggled) / u64::from(written)
     }
 }

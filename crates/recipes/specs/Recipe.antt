@@ -52,3 +52,7 @@ per_source Long = 2
 -- a lane of C has 16 or 32 bits
 abbrev pub OfC : ℕ → Type 0
 OfC lane = (lane ≡ 16) ⊎ (lane ≡ 32)
+
+-- and its elements twice as many
+abbrev pub Doubled : ℕ → ℕ → Type 0
+Doubled lane wide = OfC lane × (wide ≡ 2 * lane)

@@ -1,40 +1,34 @@
-use mathlib.Core.Path.{refl, sym, ap₂, ◌∙◌}
-use Prim.Native.Nat.{◌+◌, ◌/◌, ◌≤◌}
+use mathlib.Core.Path.{refl}
+use Prim.Native.Nat.{◌+◌, ◌*◌, ◌/◌}
 use native.Mathlib.Omega.{arith}
 use Rattle.elements.proofs.Vectors.{put_each}
-use Rattle.bits.specs.Bits.{rose, fell}
-use Rattle.bits.proofs.Bits.{rose_unmoved, fell_unmoved, rises_same, falls_same}
-use Rattle.chunks.proofs.Parts.{array_widths}
+use Rattle.bits.proofs.Put.{none_yet}
+use Rattle.chunks.proofs.Parts.{array_chunk}
 use Rattle.chunks.proofs.Renewed.{turned, whole, array_step, array_place}
 use Rattle.chunks.proofs.renew_by.Goals as goal
 
-pub loop-o-init : goal.loop-o-init
+pub loop-word-init : goal.loop-word-init
 unfolding put_each
-loop-o-init c =
-    (omega arith, omega arith, refl, sym (rises_same _), sym (falls_same _), (omega arith, omega arith), refl)
+loop-word-init g c =
+    (refl, none_yet c.args.za.now c.default-toggles.result c.default-toggles.ensures.0 c.default-toggles.ensures.1, (omega arith, omega arith), refl, λ j. (c.type_inv.za j).fits)
 
-pub loop-o-preserved : goal.loop-o-preserved
-loop-o-preserved c = let eight : c.loop-o.o + 8 ≤ c.args.bytes = omega arith in
-    let step = array_step c.args.lane c.args.wide c.requires.of_array in
+pub loop-word-preserved : goal.loop-word-preserved
+loop-word-preserved g c =
+    let array = c.requires.of_array in
+    let step = array_step g.row.LANE g.row.WIDE array in
     let T =
-    turned c.args.lane c.args.wide (array_widths c.args.lane c.args.wide c.requires.of_array).1.0 c.args.unsigned c.args.subtract c.args.za.now c.args.at c.args.z.now
-    c.args.x (c.args.wide / c.args.lane) (c.args.wide / 8) c.args.y (c.args.wide / c.args.lane) (c.args.wide / 8) c.args.bytes step step (λ j. (c.slice_known-1.given j).fits) c.requires.bytes_in_bounds.0 c.requires.bytes_in_bounds.1.0
-    c.loop-o.o c.read8-old.result c.array_chunk-new.result (c.args.x + c.loop-o.o) (c.args.y + c.loop-o.o) c.loop-o.za _
-    c.loop-o.invariant.1 c.loop-o-test.true c.loop-o.invariant.2
-    (array_place c.args.lane c.args.wide c.requires.of_array c.args.x c.loop-o.o c.loop-o.invariant.1) (array_place c.args.lane c.args.wide c.requires.of_array c.args.y c.loop-o.o c.loop-o.invariant.1)
-    c.read8-old.ensures.0 c.array_chunk-new.ensures c.put8.ensures in (
-      omega (arith, eight),
-      omega arith,
-      T.upto,
-      ap₂ ◌+◌ c.loop-o.invariant.3 c.risen-rises.ensures.0 ∙ T.counts rose rose_unmoved,
-      ap₂ ◌+◌ c.loop-o.invariant.4 c.fallen-falls.ensures.0 ∙ T.counts fell fell_unmoved,
-      (omega (arith, c.risen-rises.ensures.1), omega (arith, c.fallen-falls.ensures.1)),
-      T.long,
-    )
+    turned g.row.LANE g.row.WIDE (array_chunk g.row.LANE g.row.WIDE array).0.1.0 c.args.operation.unsigned c.args.operation.subtract c.args.za.now c.args.at c.args.z.now
+    c.args.x (g.row.WIDE / g.row.LANE) (g.row.WIDE / 8) c.args.y (g.row.WIDE / g.row.LANE) (g.row.WIDE / 8) c.args.bytes step step c.loop-word.invariant.4 c.requires.bytes_in_bounds.0 c.requires.bytes_in_bounds.1.0
+    c.loop-word.word c.loop-word.toggles c.write.result c.add_assign.new.self c.read-old.result c.step_chunk-new.result (c.args.x + 8 * c.loop-word.word) (c.args.y + 8 * c.loop-word.word) c.loop-word.za c.write.new.file
+    (omega arith) c.loop-word.invariant.0 c.loop-word.invariant.1
+    (array_place g.row.LANE g.row.WIDE array c.args.x c.loop-word.word) (array_place g.row.LANE g.row.WIDE array c.args.y c.loop-word.word)
+    c.read-old.ensures.0 c.step_chunk-new.ensures c.write.ensures.value c.add_assign.ensures.after c.write.ensures.new in
+    (T.0, T.1, (omega arith, omega arith), T.2, c.loop-word.invariant.4)
 
 pub returns : goal.returns
-returns c =
-    let step = array_step c.args.lane c.args.wide c.requires.of_array in
-    whole c.args.lane c.args.wide (array_widths c.args.lane c.args.wide c.requires.of_array).1.0 c.args.unsigned c.args.subtract c.args.za.now c.args.at c.args.z.now
-    c.args.x (c.args.wide / c.args.lane) (c.args.wide / 8) c.args.y (c.args.wide / c.args.lane) (c.args.wide / 8) c.args.bytes step step (λ j. (c.slice_known-1.given j).fits) c.requires.bytes_in_bounds.0 c.requires.bytes_in_bounds.1.0
-    c.loop-o.o c.loop-o.rises c.loop-o.falls c.loop-o.za c.loop-o.invariant.1 c.loop-o.invariant.0 c.loop-o-test.false c.loop-o.invariant.2 c.loop-o.invariant.3 c.loop-o.invariant.4
+returns g c =
+    let array = c.requires.of_array in
+    let step = array_step g.row.LANE g.row.WIDE array in
+    whole g.row.LANE g.row.WIDE (array_chunk g.row.LANE g.row.WIDE array).0.1.0 c.args.operation.unsigned c.args.operation.subtract c.args.za.now c.args.at c.args.z.now
+    c.args.x (g.row.WIDE / g.row.LANE) (g.row.WIDE / 8) c.args.y (g.row.WIDE / g.row.LANE) (g.row.WIDE / 8) c.args.bytes step step c.loop-word.invariant.4 c.requires.bytes_in_bounds.0 c.requires.bytes_in_bounds.1.0
+    c.loop-word.word c.loop-word.toggles c.loop-word.za (omega arith) c.loop-word.invariant.0 c.loop-word.invariant.1
