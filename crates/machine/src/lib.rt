@@ -133,16 +133,13 @@ fn step_vectors<const K: usize>(
     ensures { (za.new ≡ replaced (place first stride K) (becomes fields w first stride K z.now za.old) w (fields.group * K) za.old) × (result ≡ toggles za.old za.new) }
 {
     let count = fields.group as usize * K;
-    let mut rises: u64 = 0;
-    let mut falls: u64 = 0;
+    let mut toggles = Toggles::default();
     for q in 0..count {
         let r = q / K;
         let i = q % K;
-        let toggles = step_vector::<K>(fields, w, first + r * stride + i, r, i, z, za);
-        rises += toggles.rises;
-        falls += toggles.falls;
+        toggles += step_vector::<K>(fields, w, first + r * stride + i, r, i, z, za);
     }
-    Toggles { rises, falls }
+    toggles
 }
 
 // D, E, with K vectors for a source register: ZA after the step. Answers how many bits rose and fell.
