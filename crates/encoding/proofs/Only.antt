@@ -93,10 +93,10 @@ module _ (w : ℕ) (lt : w < 2 ^ 32) where
       then b_undone
       then (λ m _. one_row row_c16 (values_c16 (fields_c 16 (value row_c16 w))) refl m (omega (arith, subtract_c)))
       then (λ m _. one_row row_c32 (values_c32 (fields_c 32 (value row_c32 w))) refl m (omega (arith, subtract_c)))
-      then (λ m _. one_row row_d2 (values_d (fields_d 2 (value row_d2 w)) 2 16) refl m (omega (arith, unsigned_za, subtract_za, lane_za)))
-      then (λ m _. one_row row_d4 (values_d (fields_d 4 (value row_d4 w)) 4 8) refl m (omega (arith, unsigned_za, subtract_za, lane_za)))
-      then (λ m _. one_row row_e2 (values_e (fields_e 2 (value row_e2 w)) 2 16) refl m (omega (arith, unsigned_za, subtract_za)))
-      then (λ m _. one_row row_e4 (values_e (fields_e 4 (value row_e4 w)) 4 8) refl m (omega (arith, unsigned_za, subtract_za)))
+      then (λ m _. one_row row_d2 (values_d 2 (fields_d 2 (value row_d2 w))) refl m (omega (arith, unsigned_za, subtract_za, lane_za)))
+      then (λ m _. one_row row_d4 (values_d 4 (fields_d 4 (value row_d4 w))) refl m (omega (arith, unsigned_za, subtract_za, lane_za)))
+      then (λ m _. one_row row_e2 (values_e 2 (fields_e 2 (value row_e2 w))) refl m (omega (arith, unsigned_za, subtract_za)))
+      then (λ m _. one_row row_e4 (values_e 4 (fields_e 4 (value row_e4 w))) refl m (omega (arith, unsigned_za, subtract_za)))
       then tt
 
 -- a word with the fields f is the candidate of f

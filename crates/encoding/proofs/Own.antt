@@ -1,30 +1,37 @@
--- A candidate has the layout of the row that it was built by, and no word has two: so it says what that row says of it, and encode's test asks
--- no other row. Assumes nothing.
-use Prim.Native.Nat.{ℕ, ◌+◌, ◌*◌, ◌/◌, ◌%◌, ◌^◌, ◌≤◌}
+-- A candidate has the layout of the row that it was built by, and no word has two: so it says what that row says of it, and the test of these fields
+-- decides which word has given ones. Assumes nothing.
+use Prim.Native.Nat.{ℕ, ◌+◌, ◌*◌, ◌/◌, ◌%◌, ◌^◌, ◌<◌, ◌≤◌}
 use native.Mathlib.Omega.{arith}
 use mathlib.Core.Path.{◌≡◌, refl, sym, ap, ◌∙◌, subst}
-use mathlib.Core.Logic.{◌⊎◌}
+use mathlib.Core.Logic.{◌⊎◌, ◌≢◌}
 use mathlib.Core.List.Memᴰ.{head as here}
 use mathlib.Core.List.Memᴰ.{tail as next}
 use mathlib.Core.List.{List, [], ◌∷◌, Memᴰ}
 use mathlib.Core.Bool.{Bool, true, false, not, ◌||◌, cond}
 use lib.Dec.{eqb}
 use lib.ListN.{get_or}
+use Rattle.std.specs.Prelude.{Some, None}
+use Rattle.std.specs.Bool.{then_some}
+use Rattle.std.proofs.lemmas.Option.{same_Some, cond_some}
 use Rattle.laws.specs.Lists.{Each}
-use Rattle.laws.proofs.Tests.{one_of_three, by_three, failed, never_both, cond-holds}
+use Rattle.laws.proofs.Tests.{one_of_three, by_three, never_both}
 use Rattle.layouts.specs.Layout.{Layout, size, matches, value, parts, build}
 use Rattle.layouts.proofs.Inverse.{Fit, parts-build}
-use Rattle.words.specs.Rows.{row_a, row_b, row_c16, row_c32, row_d2, row_d4, row_e2, row_e4}
-use Rattle.words.specs.Says.{Row, table, describe, fields_a16, fields_a32, by_vector, fields_c, fields_d, fields_e}
+use Rattle.words.specs.Rows.{row_a, row_b}
+use Rattle.words.specs.Says.{As, Row, table, describe, fields_a16, fields_a32, fields_b}
+use Rattle.words.specs.Kinds.{fields_as}
 use Rattle.words.specs.Numbers.{bit_of}
 use Rattle.words.specs.declared.Family.{Family}
 use Rattle.words.specs.declared.Family.TheVariants.{ByElement, Vector, Saturating, LongLong, Long}
 use Rattle.words.specs.declared.Fields.{Fields}
+use Rattle.words.specs.declared.Kind.{Kind}
+use Rattle.words.specs.declared.Kind.TheVariants as kind
 use Rattle.words.proofs.Numbers.{bit_range}
 use Rattle.words.proofs.Table.{described_exactly}
 use Rattle.words.proofs.Ranges.{in_range}
-use Rattle.encoding.specs.Candidate.{values_a16, values_a32, values_b, values_c16, values_c32, values_d, values_e, candidate_by, candidate_of, same_of, says_only}
-use Rattle.encoding.proofs.Equal.{says_eq}
+use Rattle.encoding.specs.Encode.{Has, TheWord}
+use Rattle.encoding.specs.Candidate.{values_a16, values_a32, values_b, values_c16, values_c32, values_d, values_e, lane_b, kind_by, kind_with, built_as, candidate_by}
+use Rattle.encoding.proofs.Only.{only}
 
 -- ---- any row
 
@@ -35,35 +42,22 @@ built l vs w fit e =
     subst (λ (x : ℕ). (parts l x ≡ vs) × (matches l x ≡ true)) z (parts-build l vs 0 fit)
 
 -- so it says what its row says, where its size is not reserved
-abbrev Answers : Fields → ℕ → Row → Type 0
-Answers f w r = (vs : List ℕ) → Fit r.layout vs → r.reserved (value r.layout w) ≡ false → w ≡ build r.layout vs
-    → same_of f (r.fields (value r.layout w)) ≡ says_only f (describe w)
+abbrev Says : ℕ → Row → Type 0
+Says w r = (vs : List ℕ) → Fit r.layout vs → r.reserved (value r.layout w) ≡ false → w ≡ build r.layout vs → describe w ≡ As (r.fields (value r.layout w))
 
-row_answers : (f : Fields) (w : ℕ) (r : Row) → Memᴰ r table → Answers f w r
-row_answers f w r listed vs fit o e =
-    sym (ap (says_only f) ((described_exactly w (r.fields (value r.layout w))).1
-    (record { row = r; listed = listed; matching = (built r.layout vs w fit e).1; open_size = o; fields = refl })))
+row_says : (w : ℕ) (r : Row) → Memᴰ r table → Says w r
+row_says w r listed vs fit o e =
+    (described_exactly w (r.fields (value r.layout w))).1
+    (record { row = r; listed = listed; matching = (built r.layout vs w fit e).1; open_size = o; fields = refl })
 
-each_answers : (f : Fields) (w : ℕ) (rs : List Row) → ((r : Row) → Memᴰ r rs → Answers f w r) → Each (Answers f w) rs
-each_answers f w [] k = tt
-each_answers f w (r ∷ rs) k = (k r (here refl), each_answers f w rs (λ q m. k q (next m)))
+each_says : (w : ℕ) (rs : List Row) → ((r : Row) → Memᴰ r rs → Says w r) → Each (Says w) rs
+each_says w [] k = tt
+each_says w (r ∷ rs) k = (k r (here refl), each_says w rs (λ q m. k q (next m)))
 
-answers : (f : Fields) (w : ℕ) → Each (Answers f w) table
-answers f w = each_answers f w table (row_answers f w)
+says : (w : ℕ) → Each (Says w) table
+says w = each_says w table (row_says w)
 
 -- ---- the rows of the candidate
-
--- the lanes of B
-abbrev pub lane_b : ℕ → Bool
-lane_b lane = eqb lane 8 || eqb lane 16 || eqb lane 32
-
--- whether the fields are those that the candidate's row reads in the word
-abbrev pub own_by : Family → Fields → ℕ → Bool
-own_by ByElement f w = cond (eqb f.lane 16) (same_of f (fields_a16 (value row_a w))) (same_of f (fields_a32 (value row_a w)))
-own_by Vector f w = cond (lane_b f.lane) (same_of f (by_vector (value row_b w) f.lane)) false
-own_by Saturating f w = cond (eqb f.lane 16) (same_of f (fields_c 16 (value row_c16 w))) (same_of f (fields_c 32 (value row_c32 w)))
-own_by LongLong f w = cond (eqb f.group 2) (same_of f (fields_d 2 (value row_d2 w))) (same_of f (fields_d 4 (value row_d4 w)))
-own_by Long f w = cond (eqb f.group 2) (same_of f (fields_e 2 (value row_e2 w))) (same_of f (fields_e 4 (value row_e4 w)))
 
 -- U and S are bits, so that each value is within its field
 module _ (f : Fields) where
@@ -78,52 +72,86 @@ abbrev third : List ℕ → ℕ
 third vs = get_or vs 2 0
 
 -- A: the candidate's ss says which fields the row reads
-a : (f : Fields) (w : ℕ) (vs : List ℕ) → Fit row_a vs → not (eqb (third vs) 0b01 || eqb (third vs) 0b10) ≡ false → w ≡ build row_a vs
-    → same_of f (cond (eqb (third vs) 0b01) (fields_a16 (value row_a w)) (fields_a32 (value row_a w))) ≡ says_only f (describe w)
-a f w vs fit o e =
+a : (w : ℕ) (vs : List ℕ) → Fit row_a vs → not (eqb (third vs) 0b01 || eqb (third vs) 0b10) ≡ false → w ≡ build row_a vs
+    → describe w ≡ As (cond (eqb (third vs) 0b01) (fields_a16 (value row_a w)) (fields_a32 (value row_a w)))
+a w vs fit o e =
     let ss : value row_a w "s" ≡ third vs = ap third (built row_a vs w fit e).0 in
-    ap (λ (x : ℕ). same_of f (cond (eqb x 0b01) (fields_a16 (value row_a w)) (fields_a32 (value row_a w)))) (sym ss)
-    ∙ (answers f w).0 vs fit (ap (λ (x : ℕ). not (eqb x 0b01 || eqb x 0b10)) ss ∙ o) e
+    (says w).0 vs fit (ap (λ (x : ℕ). not (eqb x 0b01 || eqb x 0b10)) ss ∙ o) e
+    ∙ ap (λ (x : ℕ). As (cond (eqb x 0b01) (fields_a16 (value row_a w)) (fields_a32 (value row_a w)))) ss
 
--- B: the ss of each of its lanes is not reserved, and gives the lane back
-lane_back : (lane : ℕ) → lane_b lane ≡ true → (eqb (lane / 16 % 4) 0b11 ≡ false) × (8 * 2 ^ (lane / 16 % 4) ≡ lane)
-lane_back lane l =
-    by_three lane 8 16 32 l (λ (n : ℕ). (eqb (n / 16 % 4) 0b11 ≡ false) × (8 * 2 ^ (n / 16 % 4) ≡ n)) (refl, refl) (refl, refl) (refl, refl)
+-- B: the ss of each of its lanes is not reserved
+lane_open : (lane : ℕ) → lane_b lane ≡ true → eqb (lane / 16 % 4) 0b11 ≡ false
+lane_open lane l = by_three lane 8 16 32 l (λ (n : ℕ). eqb (n / 16 % 4) 0b11 ≡ false) refl refl refl
 
-b : (f : Fields) (w : ℕ) → lane_b f.lane ≡ true → w ≡ build row_b (values_b f) → same_of f (by_vector (value row_b w) f.lane) ≡ says_only f (describe w)
+b : (f : Fields) (w : ℕ) → lane_b f.lane ≡ true → w ≡ build row_b (values_b f) → describe w ≡ As (fields_b (value row_b w))
 b f w l e =
     let fit : Fit row_b (values_b f) = omega (arith, u f, s f) in
     let ss : value row_b w "s" ≡ f.lane / 16 % 4 = ap third (built row_b (values_b f) w fit e).0 in
-    let back = lane_back f.lane l in
-    ap (λ (lane : ℕ). same_of f (by_vector (value row_b w) lane)) (sym (ap (λ (x : ℕ). 8 * 2 ^ x) ss ∙ back.1))
-    ∙ (answers f w).1.0 (values_b f) fit (ap (λ (x : ℕ). eqb x 0b11) ss ∙ back.0) e
+    (says w).1.0 (values_b f) fit (ap (λ (x : ℕ). eqb x 0b11) ss ∙ lane_open f.lane l) e
 
+-- a word that was built by the kind's row says the kind's fields
+own : (k : Kind) (f : Fields) (w : ℕ) → (k ≡ kind.Vector → lane_b f.lane ≡ true) → w ≡ built_as k f → describe w ≡ As (fields_as k w)
+unfolding fields_as
+own kind.ByElement16 f w l = a w (values_a16 f) (omega (arith, u f, s f)) refl
+own kind.ByElement32 f w l = a w (values_a32 f) (omega (arith, u f, s f)) refl
+own kind.Vector f w l = b f w (l refl)
+own kind.Saturating16 f w l = let (_, (_, (c16, _))) = says w in c16 (values_c16 f) (omega (arith, s f)) refl
+own kind.Saturating32 f w l = let (_, (_, (_, (c32, _)))) = says w in c32 (values_c32 f) (omega (arith, s f)) refl
+own kind.LongLong2 f w l = let (_, (_, (_, (_, (d2, _))))) = says w in d2 (values_d 2 f) (omega (arith, u f, s f)) refl
+own kind.LongLong4 f w l = let (_, (_, (_, (_, (_, (d4, _)))))) = says w in d4 (values_d 4 f) (omega (arith, u f, s f)) refl
+own kind.Long2 f w l = let (_, (_, (_, (_, (_, (_, (e2, _))))))) = says w in e2 (values_e 2 f) (omega (arith, u f, s f)) refl
+own kind.Long4 f w l = let (_, (_, (_, (_, (_, (_, (_, (e4, _)))))))) = says w in e4 (values_e 4 f) (omega (arith, u f, s f)) refl
+
+-- ---- the kind of the candidate
+
+-- a choice of two kinds that are not B's
+two : (t : Bool) (p q k : Kind) (f : Fields) → p ≢ kind.Vector → q ≢ kind.Vector → cond t (Some p) (Some q) ≡ Some k
+    → (built_as k f ≡ cond t (built_as p f) (built_as q f)) × (k ≡ kind.Vector → lane_b f.lane ≡ true)
+two true p q k f np nq e = let s : p ≡ k = same_Some p k e in (ap (λ (x : Kind). built_as x f) (sym s), λ v. absurd (np (s ∙ v)))
+two false p q k f np nq e = let s : q ≡ k = same_Some q k e in (ap (λ (x : Kind). built_as x f) (sym s), λ v. absurd (nq (s ∙ v)))
+
+-- of the kind the candidate is the family's, and B has one of its lanes
+by_kind : (family : Family) (f : Fields) (k : Kind) → kind_by family f ≡ Some k
+    → (built_as k f ≡ candidate_by family f) × (k ≡ kind.Vector → lane_b f.lane ≡ true)
+by_kind ByElement f k = two (eqb f.lane 16) _ _ k f (λ (z : kind.ByElement16 ≡ kind.Vector). cc) (λ (z : kind.ByElement32 ≡ kind.Vector). cc)
+by_kind Vector f k = λ e. let p = cond_some (lane_b f.lane) kind.Vector k e in (ap (λ (x : Kind). built_as x f) (sym p.1), λ _. p.0)
+by_kind Saturating f k = two (eqb f.lane 16) _ _ k f (λ (z : kind.Saturating16 ≡ kind.Vector). cc) (λ (z : kind.Saturating32 ≡ kind.Vector). cc)
+by_kind LongLong f k = two (eqb f.group 2) _ _ k f (λ (z : kind.LongLong2 ≡ kind.Vector). cc) (λ (z : kind.LongLong4 ≡ kind.Vector). cc)
+by_kind Long f k = two (eqb f.group 2) _ _ k f (λ (z : kind.Long2 ≡ kind.Vector). cc) (λ (z : kind.Long4 ≡ kind.Vector). cc)
+
+-- no word has another lane of B
 lane_known : (lane : ℕ) → (lane ≡ 8) ⊎ ((lane ≡ 16) ⊎ (lane ≡ 32)) → lane_b lane ≡ true
 lane_known = one_of_three (λ n. lane_b n ≡ true) 8 16 32 refl refl refl
 
--- no word has another lane
-no-lane : (f : Fields) (w : ℕ) → lane_b f.lane ≡ false → false ≡ says_only f (describe w)
-no-lane f w l = sym (failed _ (λ p. never_both _ (lane_known f.lane (in_range w f (says_eq f (describe w) p)).lane) l))
+one : (p q : Kind) (t : Bool) → cond t (Some p) (Some q) ≡ None → ⊥
+one p q true e = cc
+one p q false e = cc
 
--- a choice of two rows
-one_of : (t : Bool) (w v u : ℕ) (p q r : Bool) → (w ≡ v → p ≡ r) → (w ≡ u → q ≡ r) → w ≡ cond t v u → cond t p q ≡ r
-one_of true w v u p q r k l e = k e
-one_of false w v u p q r k l e = l e
+no_lane : (t : Bool) (p : Kind) → cond t (Some p) None ≡ None → t ≡ false
+no_lane true p e = cc
+no_lane false p e = refl
 
-own_by_lem : (family : Family) (f : Fields) (w : ℕ) → w ≡ candidate_by family f → own_by family f w ≡ says_only f (describe w)
-own_by_lem ByElement f w =
-    one_of (eqb f.lane 16) w _ _ _ _ _ (a f w (values_a16 f) (omega (arith, u f, s f)) refl) (a f w (values_a32 f) (omega (arith, u f, s f)) refl)
-own_by_lem Vector f w = λ e. cond-holds (λ (t : Bool). t ≡ says_only f (describe w)) (lane_b f.lane) _ _ (λ l. b f w l e) (no-lane f w)
-own_by_lem Saturating f w =
-    let (_, (_, (c16, (c32, _)))) = answers f w in
-    one_of (eqb f.lane 16) w _ _ _ _ _ (c16 (values_c16 f) (omega (arith, s f)) refl) (c32 (values_c32 f) (omega (arith, s f)) refl)
-own_by_lem LongLong f w =
-    let (_, (_, (_, (_, (d2, (d4, _)))))) = answers f w in
-    one_of (eqb f.group 2) w _ _ _ _ _ (d2 (values_d f 2 16) (omega (arith, u f, s f)) refl) (d4 (values_d f 4 8) (omega (arith, u f, s f)) refl)
-own_by_lem Long f w =
-    let (_, (_, (_, (_, (_, (_, (e2, (e4, _)))))))) = answers f w in
-    one_of (eqb f.group 2) w _ _ _ _ _ (e2 (values_e f 2 16) (omega (arith, u f, s f)) refl) (e4 (values_e f 4 8) (omega (arith, u f, s f)) refl)
+none_by : (family : Family) (f : Fields) → kind_by family f ≡ None → (w : ℕ) → Has f w → ⊥
+none_by ByElement f e w h = one _ _ (eqb f.lane 16) e
+none_by Vector f e w h = never_both _ (lane_known f.lane (in_range w f h.says).lane) (no_lane (lane_b f.lane) kind.Vector e)
+none_by Saturating f e w h = one _ _ (eqb f.lane 16) e
+none_by LongLong f e w h = one _ _ (eqb f.group 2) e
+none_by Long f e w h = one _ _ (eqb f.group 2) e
 
--- the answer of the candidate's own row is the answer of the whole table
-pub own : (family : Family) (f : Fields) (w : ℕ) (r : Bool) → f.family ≡ family → w ≡ candidate_of f → r ≡ own_by family f w → r ≡ says_only f (describe w)
-own family f w r told e h = h ∙ own_by_lem family f w (e ∙ ap (λ (x : Family). candidate_by x f) told)
+-- where there is no kind no word has the fields
+pub no_kind : (f : Fields) → kind_with f ≡ None → (w : ℕ) → Has f w → ⊥
+no_kind f = none_by f.family f
+
+-- ---- the test
+
+-- the word that was built has the fields where it says them, and else none has
+pub tested : (k : Kind) (f g : Fields) (w : ℕ) (t : Bool) → kind_with f ≡ Some k → w ≡ built_as k f → w < 2 ^ 32 → g ≡ fields_as k w
+    → (t ≡ true → g ≡ f) → (g ≡ f → t ≡ true) → TheWord (Has f) (then_some t w)
+tested k f g w true ek ew lt eg then_same if_same =
+    record { fits = lt; says = own k f w (by_kind f.family f k ek).1 ew ∙ ap As (sym eg ∙ then_same refl) }
+tested k f g w false ek ew lt eg then_same if_same = λ v h.
+    let p = by_kind f.family f k ek in
+    let same : w ≡ v = ew ∙ p.0 ∙ only f v h.fits h.says in
+    let twice : As (fields_as k w) ≡ As f = sym (own k f w p.1 ew) ∙ ap describe same ∙ h.says in
+    let known : g ≡ f = cc in
+    never_both _ (if_same known) refl

@@ -60,10 +60,7 @@ fn put_answer(
 {
     match callinglamp::run(list, z, za, report) {
         Err(fault) => {
-            out.push_str(&lines::refused_line(
-                settings::refusal_number(fault.refusal),
-                fault.place,
-            ));
+            out.push_str(&lines::refused_line(u32::from(fault.refusal), fault.place));
         }
         Ok(ran) => {
             let lengths = Lengths {

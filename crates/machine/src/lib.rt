@@ -243,7 +243,7 @@ impl<'a> Machine<'a> {
         ensures executed { ExecutePromise self.old.settings word self.old.z.now self.old.za.now result self.new.z.now self.new.za.now }
         ensures same { SameMachine self.old self.new }
     {
-        if !self.permits(words::kind_family(kind)) {
+        if !self.permits(Family::from(kind)) {
             return Err(Refusal::WrongMode);
         }
         Ok(self.step(words::fields_of(kind, word)))
@@ -254,11 +254,8 @@ impl<'a> Machine<'a> {
         ensures executed { ExecutePromise self.old.settings word self.old.z.now self.old.za.now result self.new.z.now self.new.za.now }
         ensures same { SameMachine self.old self.new }
     {
-        let kind = words::kind_of(word);
-        if words::enables_kind(self.settings.features, kind, word) {
-            return self.execute_kind(kind, word);
-        }
-        Err(Refusal::UnknownWord)
+        let kind = words::enabled_kind(self.settings.features, word)?;
+        self.execute_kind(kind, word)
     }
 }
 
@@ -300,6 +297,6 @@ pub fn report_of(answer: Result<Counts, Refusal>) -> [u32; 4]
 {
     match answer {
         Ok(counts) => [0, counts.rises, counts.falls, counts.written],
-        Err(refusal) => [settings::refusal_number(refusal), 0, 0, 0],
+        Err(refusal) => [u32::from(refusal), 0, 0, 0],
     }
 }

@@ -53,7 +53,7 @@ fn of_halves(refusal: u32, value: u32) -> u64
 fn refused(refusal: Refusal, value: u32) -> u64
     ensures { halves result ≡ (refusal_number refusal, value) }
 {
-    of_halves(settings::refusal_number(refusal), value)
+    of_halves(u32::from(refusal), value)
 }
 
 // The family of a number from 1 to 5.
@@ -73,11 +73,10 @@ fn family_of(number: u32) -> Family
 fn put_fields(f: Fields, numbers: &mut [u32; 12])
     ensures { numbers.new ≡ field_numbers f }
 {
-    let family = f.family;
     *numbers = [
-        words::family_number(family),
-        words::bit(f.unsigned),
-        words::bit(f.subtract),
+        u32::from(f.family),
+        u32::from(f.unsigned),
+        u32::from(f.subtract),
         f.lane,
         f.part,
         f.index,

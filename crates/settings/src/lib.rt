@@ -105,22 +105,24 @@ pub enum Refusal {
 }
 
 // The number that document 01 gives the refusal, or request One of document 02.
-pub fn refusal_number(refusal: Refusal) -> u32
-    ensures { result ≡ refusal_number refusal }
-{
-    match refusal {
-        Refusal::BadSettings => 1,
-        Refusal::BadLength => 2,
-        Refusal::UnknownWord => 3,
-        Refusal::WrongMode => 4,
-        Refusal::NoSuchWord => 5,
-        Refusal::NoPartner => 6,
-        Refusal::ListEnds => 7,
-        Refusal::BadNumber => 8,
-        Refusal::TooManyWords => 9,
-        Refusal::ExtraBytes => 10,
-        Refusal::NotText => 11,
-        Refusal::ShortRoom => 12,
+impl From<Refusal> for u32 {
+    ghost from_gives = { λ refusal number. number ≡ refusal_number refusal };
+
+    fn from(refusal: Refusal) -> u32 {
+        match refusal {
+            Refusal::BadSettings => 1,
+            Refusal::BadLength => 2,
+            Refusal::UnknownWord => 3,
+            Refusal::WrongMode => 4,
+            Refusal::NoSuchWord => 5,
+            Refusal::NoPartner => 6,
+            Refusal::ListEnds => 7,
+            Refusal::BadNumber => 8,
+            Refusal::TooManyWords => 9,
+            Refusal::ExtraBytes => 10,
+            Refusal::NotText => 11,
+            Refusal::ShortRoom => 12,
+        }
     }
 }
 
@@ -152,15 +154,17 @@ fn valid_modes(features: Features, modes: Modes) -> bool
 
 impl Settings {
     // Whether the settings keep the rules: where they do not, every call refuses them with 1.
+    #[tactic(auto, unfolding(crate::specs::Valid::valid_settings))]
     pub fn valid(self) -> bool
         ensures { result ≡ valid_settings self }
     {
-        let features = self.features;
-        let modes = self.modes;
-        valid_length(self.vl) & valid_features(features) & valid_modes(features, modes)
+        valid_length(self.vl)
+            & valid_features(self.features)
+            & valid_modes(self.features, self.modes)
     }
 
     // The bytes of a Z register.
+    #[tactic(auto, unfolding(crate::specs::Valid::vector_bytes))]
     pub fn vector_bytes(self) -> u32
         ensures { result ≡ vector_bytes self }
     {
@@ -168,6 +172,7 @@ impl Settings {
     }
 
     // The bytes of a ZA vector, and the number of ZA vectors.
+    #[tactic(auto, unfolding(crate::specs::Valid::array_bytes))]
     pub fn array_bytes(self) -> u32
         ensures { result ≡ array_bytes self }
     {

@@ -13,8 +13,8 @@ use Rattle.pieces.specs.Pieces.{text, decimal, decimal_up_to}
 use Rattle.syntax.specs.Syntax.{fill}
 use Rattle.syntax.specs.Scan.{fits, taken, number_of, passes_of}
 use Rattle.words.specs.Says.{describe}
-use Rattle.encoding.specs.Candidate.{candidate_of, says_only}
-use Rattle.encoding.proofs.Equal.{fails_none}
+use Rattle.encoding.specs.Candidate.{candidate_of}
+use Rattle.encoding.proofs.Equal.{says_only, fails_none}
 use Rattle.spelling.specs.Rows.{syntax_at}
 use Rattle.spelling.specs.Spell.{letter_values, row_for}
 use Rattle.spelling.specs.Language.{Spells}

@@ -297,7 +297,7 @@ fn fields_of(k: usize, values: &[u32; 26]) -> Fields
 {
     let row = row_at(k);
     let first = value(values, b'N');
-    let top = words::bit(value(values, b'T') == u32::from(b't'));
+    let top = u32::from(value(values, b'T') == u32::from(b't'));
     let group = group_of(first, value(values, b'K'));
     Fields {
         family: row.family,

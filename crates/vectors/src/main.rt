@@ -72,20 +72,9 @@ fn flag(number: u32) -> Option<bool> {
     }
 }
 
-fn family(number: u32) -> Option<Family> {
-    match number {
-        1 => Some(Family::ByElement),
-        2 => Some(Family::Vector),
-        3 => Some(Family::Saturating),
-        4 => Some(Family::LongLong),
-        5 => Some(Family::Long),
-        _ => None,
-    }
-}
-
 fn fields_of(line: &[u8]) -> Option<Fields> {
     Some(Fields {
-        family: family(number_of(line, 0))?,
+        family: Family::try_from(number_of(line, 0)).ok()?,
         unsigned: flag(number_of(line, 1))?,
         subtract: flag(number_of(line, 2))?,
         lane: number_of(line, 3),

@@ -1,5 +1,5 @@
 -- What the promises of decode and partner determine, and what callers take from them. Assumes nothing.
-use Prim.Native.Nat.{ℕ, ◌<◌}
+use Prim.Native.Nat.{ℕ}
 use native.Mathlib.Omega.{arith}
 use mathlib.Core.Path.{◌≡◌, refl, sym, ap, ◌∙◌, subst}
 use mathlib.Core.Logic.{◌↔◌, ◌≢◌}
@@ -8,13 +8,14 @@ use borrow.Author.Tests.{ne_eqb}
 use Rattle.laws.proofs.Tests.{never_both, by_cond}
 use Rattle.std.specs.Prelude.{Result, Ok, Err}
 use Rattle.settings.specs.Valid.{valid_settings}
-use Rattle.settings.specs.Refused.{word_says}
+use Rattle.settings.specs.Refused.{refusal_number, word_says}
 use Rattle.settings.specs.declared.Refusal.{Refusal}
+use Rattle.settings.specs.declared.Refusal.TheVariants.{BadSettings, UnknownWord}
 use Rattle.settings.specs.declared.Settings.{Settings}
-use Rattle.settings.proofs.Refusals.{refused_not_0, refused_known, word_known}
+use Rattle.settings.proofs.Refusals.{not_0, refused_not_0, refused_known, word_known}
 use Rattle.words.specs.Says.{Described, As, Nothing, table, describe, SaidBy}
 use Rattle.words.specs.Decode.{enables, no_fields, decoded_says, enabled_only, decode_enabled, decode_paper}
-use Rattle.words.specs.Kinds.{fields_as, says_as, family_as, enables_said}
+use Rattle.words.specs.Kinds.{fields_as, family_as}
 use Rattle.words.specs.Partner.{partner_word, turned, is_c, partner_paper}
 use Rattle.words.specs.Sign.{partner_in}
 use Rattle.words.specs.declared.Family.{Family}
@@ -22,7 +23,7 @@ use Rattle.words.specs.declared.Family.TheVariants.{ByElement, Vector, Saturatin
 use Rattle.words.specs.declared.Fields.{Fields}
 use Rattle.words.specs.declared.Kind.{Kind}
 use Rattle.words.proofs.Table.{described_exactly}
-use Rattle.words.proofs.ByKind.{family_as_lem, kind_refused, kind_enabled}
+use Rattle.words.proofs.ByKind.{family_as_lem, decodes_enabled}
 use Rattle.words.proofs.Partners.{partner-turned, partner_back, partner_sign}
 
 -- ---- each answer is determined by its promise
@@ -88,24 +89,23 @@ partner_is s w f e =
     let a = decode_accepted s w f e in
     rw (e, partner_sign w f a.says)
 
-partner_refused : (s : Settings) (w n : ℕ) → decode_paper s w ≡ (n, no_fields) → 0 < n → partner_paper s w ≡ (n, 0)
+-- and of a word that decode refuses
+partner_refused : (s : Settings) (w : ℕ) (r : Refusal) → decode_paper s w ≡ (refusal_number r, no_fields) → partner_paper s w ≡ (refusal_number r, 0)
 unfolding partner_paper
-partner_refused s w n e h = rw (e, ne_eqb n 0 (λ z. omega arith))
+partner_refused s w r e = rw (e, ne_eqb (refusal_number r) 0 (not_0 r))
 
 -- what the code of partner answers: 1, or by the word's kind 3 or what the kind's family says
 pub partner_not_valid : (s : Settings) (w : ℕ) → valid_settings s ≡ false → partner_paper s w ≡ (1, 0)
 unfolding decode_paper
-partner_not_valid s w v = partner_refused s w 1 (rw v) (omega arith)
+partner_not_valid s w v = partner_refused s w BadSettings (rw v)
 
-module _ (s : Settings) (w : ℕ) (k : Kind) (v : valid_settings s ≡ true) (e : describe w ≡ says_as k w) where
-  pub partner_not_enabled : enables_said s.features.0 (says_as k w) ≡ false → partner_paper s w ≡ (3, 0)
-  unfolding decode_paper
-  partner_not_enabled h = partner_refused s w 3 (rw v (kind_refused s.features.0 w k e h)) (omega arith)
+module _ (s : Settings) (w : ℕ) (v : valid_settings s ≡ true) where
+  pub partner_not_enabled : decode_enabled s.features.0 w ≡ (3, no_fields) → partner_paper s w ≡ (3, 0)
+  partner_not_enabled e = partner_refused s w UnknownWord (decodes_enabled s w v ∙ e)
 
-  pub partner_by_kind : enables_said s.features.0 (says_as k w) ≡ true → partner_paper s w ≡ partner_in (family_as k) w
-  unfolding decode_paper
-  partner_by_kind h =
-      partner_is s w (fields_as k w) (rw v (kind_enabled s.features.0 w k e h)) ∙ ap (λ (family : Family). partner_in family w) (family_as_lem k w)
+  pub partner_by_kind : (k : Kind) → decode_enabled s.features.0 w ≡ (0, fields_as k w) → partner_paper s w ≡ partner_in (family_as k) w
+  partner_by_kind k e =
+      partner_is s w (fields_as k w) (decodes_enabled s w v ∙ e) ∙ ap (λ (family : Family). partner_in family w) (family_as_lem k w)
 
 -- the test for C passes for C alone
 pub not_c : (family : Family) → (family ≢ Saturating) ↔ (is_c family ≡ false)

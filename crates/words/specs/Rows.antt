@@ -1,4 +1,5 @@
 -- Document 01, "Layouts, bit 31 first".
+use Rattle.std.specs.Prelude.{ℕ, ◌≡◌, ◌⊎◌, cond, eqb}
 use Rattle.layouts.specs.Layout.{Layout, row}
 
 abbrev pub row_a : Layout
@@ -24,3 +25,24 @@ row_e2 = row "110000011 1 1 mmmm 0 0 vv 010 nnnn 0 U S 0 oo"
 
 abbrev pub row_e4 : Layout
 row_e4 = row "110000011 1 1 mmm 0 1 0 vv 010 nnn 0 0 U S 0 oo"
+
+-- ---- only contracts use these
+
+-- the lanes of A and C
+abbrev pub IsWide : ℕ → Type 0
+IsWide lane = (lane ≡ 16) ⊎ (lane ≡ 32)
+
+-- the row of C, by the lane
+abbrev pub row_c : ℕ → Layout
+row_c lane = cond (eqb lane 16) row_c16 row_c32
+
+-- the registers of a group of D and E
+abbrev pub IsGroup : ℕ → Type 0
+IsGroup group = (group ≡ 2) ⊎ (group ≡ 4)
+
+-- the row of D, and that of E, by the group
+abbrev pub row_d : ℕ → Layout
+row_d group = cond (eqb group 2) row_d2 row_d4
+
+abbrev pub row_e : ℕ → Layout
+row_e group = cond (eqb group 2) row_e2 row_e4

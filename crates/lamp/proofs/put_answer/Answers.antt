@@ -44,7 +44,7 @@ push_ran-requires c =
 
 pub returns-in-Err : goal.returns-in-Err
 returns-in-Err c =
-    let line = text-refused _ _ _ _ _ _ _ c.in-Err.fault _ c.in-Err.ensures c.refusal_number.ensures in
+    let line = text-refused _ _ _ _ _ _ _ c.in-Err.fault _ c.in-Err.ensures c.from.ensures in
     rw (c.requires.1, c.deref.ensures.0, c.refused_line.ensures) at c.push_str.ensures.bytes ∙ line
 
 pub returns-in-Ok : goal.returns-in-Ok

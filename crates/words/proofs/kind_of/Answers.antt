@@ -7,7 +7,6 @@ use mathlib.Core.List.{◌++◌}
 use Rattle.layouts.specs.Layout.{matches}
 use Rattle.words.specs.Rows.{row_a, row_b}
 use Rattle.words.specs.Says.{table_c, table_za, says_first, describe}
-use Rattle.words.specs.Kinds.{says_as}
 use Rattle.words.proofs.ByKind.{only_c, only_za, no_row}
 use Rattle.words.proofs.kind_of.Goals as goal
 
@@ -40,5 +39,4 @@ pub returns-in-193 : goal.returns-in-193
 returns-in-193 c = after_b _ _ _ c.is_a.ensures c.is_b.ensures c.if-is_a.false c.if-is_b.false ∙ only_za _ c.ranges.w.fits c.in-193.is ∙ c.kind_za.ensures
 
 pub returns-in_default : goal.returns-in_default
-unfolding says_as
 returns-in_default c = after_b _ _ _ c.is_a.ensures c.is_b.ensures c.if-is_a.false c.if-is_b.false ∙ no_row _ c.ranges.w.fits (λ e. omega arith) (λ e. omega arith)

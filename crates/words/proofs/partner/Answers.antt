@@ -1,4 +1,5 @@
--- `words::partner` meets its contract: the settings' test, then what the word's kind says, by the laws of Answers.antt. Assumes nothing.
+-- `words::partner` meets its contract, by the laws of Answers.antt. Assumes nothing.
+use Rattle.std.proofs.lemmas.Result.{MatchResult-at_ok, MatchResult-at_err, err_from_is_err_and}
 use mathlib.Core.Path.{sym, ap, ◌∙◌}
 use Rattle.words.specs.Sign.{partner_in}
 use Rattle.words.specs.declared.Family.{Family}
@@ -6,15 +7,16 @@ use Rattle.words.proofs.Answers.{partner_not_valid, partner_not_enabled, partner
 use Rattle.words.proofs.partner.Goals as goal
 
 pub returns-then-not-valid : goal.returns-then-not-valid
-returns-then-not-valid c =
-    sym (partner_not_valid c.args.settings c.args.word (sym c.valid.ensures ∙ c.if-not-valid.true))
+returns-then-not-valid c = sym (partner_not_valid c.args.settings c.args.word (sym c.valid.ensures ∙ c.if-not-valid.true))
 
-pub returns-then-enables_kind : goal.returns-then-enables_kind
-returns-then-enables_kind c =
-    c.partner_in.ensures
-    ∙ ap (λ (family : Family). partner_in family c.args.word) c.kind_family.ensures
-    ∙ sym (partner_by_kind c.args.settings c.args.word c.kind_of-found.result (sym c.valid.ensures ∙ c.if-not-valid.false) c.kind_of-found.ensures (sym c.enables_kind.ensures ∙ c.if-enables_kind.true))
+pub returns-in_err-kind : goal.returns-in_err-kind
+returns-in_err-kind c =
+    let p = err_from_is_err_and c.from_residual.result c.from_residual.ensures.1 in
+    let q = MatchResult-at_err _ _ _ c.in_err-kind.was c.enabled_kind.ensures in
+    rw (p.1, p.2 ∙ q.0) (sym (partner_not_enabled c.args.settings c.args.word (sym c.valid.ensures ∙ c.if-not-valid.false) q.1))
 
 pub returns : goal.returns
 returns c =
-    sym (partner_not_enabled c.args.settings c.args.word c.kind_of-found.result (sym c.valid.ensures ∙ c.if-not-valid.false) c.kind_of-found.ensures (sym c.enables_kind.ensures ∙ c.if-enables_kind.false))
+    c.partner_in.ensures
+    ∙ ap (λ (family : Family). partner_in family c.args.word) c.from.ensures
+    ∙ sym (partner_by_kind c.args.settings c.args.word (sym c.valid.ensures ∙ c.if-not-valid.false) _ (MatchResult-at_ok _ _ _ c.in_ok-kind.was c.enabled_kind.ensures))

@@ -8,7 +8,6 @@ use Rattle.words.specs.Ranges.{Ranges}
 use Rattle.words.specs.declared.Family.{Family}
 use Rattle.words.specs.declared.Kind.{Kind}
 use Rattle.words.proofs.ByKind.{family_as_lem}
-use Rattle.words.proofs.Answers.{decodes_exactly}
 use Rattle.machine.specs.Modes.{permits}
 use Rattle.machine.proofs.Executing.{word_ranges, not_permitted, is_done}
 use Rattle.machine.proofs.Machine.execute_kind.Goals as goal
@@ -21,10 +20,7 @@ asked s k w f b ef eb = ap (λ (g : Family). permits s.features.0 s.modes.0 g) (
 pub returns-then-not-permits-clause-executed : goal.returns-then-not-permits-clause-executed
 returns-then-not-permits-clause-executed c =
     not_permitted _ _ _ c.args.word _ c.args.self.now.ready c.requires
-    (asked c.args.self.now.settings c.args.kind c.args.word _ _ c.kind_family.ensures c.permits.ensures ∙ c.if-not-permits.true)
-
-pub fields_of-requires : goal.fields_of-requires
-fields_of-requires c = ((decodes_exactly c.args.self.now.settings c.args.word _).0 c.requires).says
+    (asked c.args.self.now.settings c.args.kind c.args.word _ _ c.from.ensures c.permits.ensures ∙ c.if-not-permits.true)
 
 pub step-requires : goal.step-requires
 step-requires c = subst Ranges (sym c.fields_of.ensures) (word_ranges c.args.self.now.settings c.args.word _ c.requires)
@@ -32,4 +28,4 @@ step-requires c = subst Ranges (sym c.fields_of.ensures) (word_ranges c.args.sel
 pub returns-clause-executed : goal.returns-clause-executed
 returns-clause-executed c =
     is_done _ _ _ c.args.word _ c.args.self.now.ready c.requires _ _ c.fields_of.ensures
-    (asked c.args.self.now.settings c.args.kind c.args.word _ _ c.kind_family.ensures c.permits.ensures ∙ c.if-not-permits.false) c.step.ensures.stepped
+    (asked c.args.self.now.settings c.args.kind c.args.word _ _ c.from.ensures c.permits.ensures ∙ c.if-not-permits.false) c.step.ensures.stepped
