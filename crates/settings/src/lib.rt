@@ -44,6 +44,7 @@ impl Modes {
     pub const ZA: Modes = Modes(2);
 
     // Whether each mode of `named` is among these. A number that is no sum of the two is contained in nothing.
+    // Kept: one function of both sets would test five bits also where there are two; docs/FORMS.md names a `contains` of each.
     pub fn contains(self, named: Modes) -> bool
         ensures { result ≡ has_modes self.0 named.0 }
     {
@@ -143,6 +144,7 @@ fn valid_features(features: Features) -> bool
 }
 
 // With SME every sum of the two is valid, and without it no mode is on.
+// Kept: it differs from `valid_features` in what it tests and in both limits; a function of both would take all that each line says.
 fn valid_modes(features: Features, modes: Modes) -> bool
     ensures { result ≡ valid_modes features.0 modes.0 }
 {

@@ -3,8 +3,8 @@
 ghost use Rattle.std.specs.Prelude.{◌≡◌, ◌*◌, ◌^◌, ◌<◌};
 ghost use Rattle.layouts.specs.Layout.{matches, value};
 ghost use Rattle.words.specs.Numbers.{family_number, FamilyOf};
-ghost use Rattle.words.specs.Rows.{row_a, row_b, row_d2, IsWide, IsGroup, row_c, row_d, row_e};
-ghost use Rattle.words.specs.Says.{by_vector, fields_c, into_za, fields_d, fields_e, entry_a, entry_b, table_c, table_za, says_of, says_first, describe as describe_paper};
+ghost use Rattle.words.specs.Rows.{row_a, row_b, IsWide, IsGroup, row_c, row_d, row_e};
+ghost use Rattle.words.specs.Says.{fields_b, fields_c, into_za, fields_d, fields_e, entry_a, entry_b, table_c, table_za, says_of, says_first, describe as describe_paper};
 ghost use Rattle.words.specs.Decode.{enables_family, enables as enables_paper, decoded_says, decode_paper};
 ghost use Rattle.words.specs.Kinds.{fields_by, fields_as, says_as, family_as, EnabledKind};
 ghost use Rattle.settings.specs.Refused.{word_says};
@@ -181,22 +181,15 @@ fn fields_a<const LANE: u32>(w: u32) -> Fields
     }
 }
 
-// The lane of B, 8<<ss.
-fn lane_b(size: u32) -> u32
-    requires { size < 4 }
-    ensures { result ≡ 8 * 2 ^ size }
-{
-    8 << size
-}
-
-pub fn fields_b(w: u32, lane: u32) -> Fields
-    ensures { result ≡ by_vector (value row_b w) lane }
+// The fields of a word of B: its lane is 8<<ss.
+fn fields_b(w: u32) -> Fields
+    ensures { result ≡ fields_b (value row_b w) }
 {
     Fields {
         family: Family::Vector,
         unsigned: w / BIT_29 % 2 == 1,
         subtract: w / BIT_13 % 2 == 1,
-        lane: lane,
+        lane: 8 << (w / BIT_22 % 4),
         part: w / BIT_30 % 2,
         index: 0,
         destination: w / BIT_0 % 32,
@@ -230,65 +223,45 @@ fn fields_c<const LANE: u32>(w: u32) -> Fields
     }
 }
 
-// U, S and vv stand at the same bits in the four rows of D and E.
-fn za_fields(
-    family: Family,
-    w: u32,
-    lane: u32,
-    first: u32,
-    second: u32,
-    group: u32,
-    offset: u32,
-) -> Fields
-    ensures { result ≡ into_za family (value row_d2 w) lane first second group offset }
+// The fields of a word of D or E with groups of GROUP registers: U, S, vv and both sources stand at the same bits in the rows of the two.
+// The number of a group's first register is a multiple of GROUP; of the bits below it some are fixed, so that they do not count.
+fn za_fields<const GROUP: u32>(family: Family, w: u32, lane: u32, offset: u32) -> Fields
+    requires { IsGroup GROUP }
+    ensures { result ≡ into_za family (value (row_d GROUP) w) lane (value (row_d GROUP) w "n" * GROUP) (value (row_d GROUP) w "m" * GROUP) GROUP offset }
 {
     Fields {
-        family: family,
+        family,
         unsigned: w / BIT_4 % 2 == 1,
         subtract: w / BIT_3 % 2 == 1,
-        lane: lane,
+        lane,
         part: 0,
         index: 0,
         destination: 0,
-        first: first,
-        second: second,
-        group: group,
+        first: w / BIT_5 % 32 / GROUP * GROUP,
+        second: w / BIT_16 % 32 / GROUP * GROUP,
+        group: GROUP,
         select: 8 + w / BIT_13 % 4,
-        offset: offset,
+        offset,
     }
 }
 
-// The fields of a word of D with groups of GROUP registers. The number of a group's first register is a multiple of GROUP; of the
-// bits below it some are fixed, so that they do not count.
 fn fields_d<const GROUP: u32>(w: u32) -> Fields
     requires { IsGroup GROUP }
     ensures { result ≡ fields_d GROUP (value (row_d GROUP) w) }
 {
-    za_fields(
+    za_fields::<GROUP>(
         Family::LongLong,
         w,
         8 + 8 * (w / BIT_22 % 2),
-        w / BIT_5 % 32 / GROUP * GROUP,
-        w / BIT_16 % 32 / GROUP * GROUP,
-        GROUP,
         4 * (w / BIT_0 % 2),
     )
 }
 
-// The same of E.
 fn fields_e<const GROUP: u32>(w: u32) -> Fields
     requires { IsGroup GROUP }
     ensures { result ≡ fields_e GROUP (value (row_e GROUP) w) }
 {
-    za_fields(
-        Family::Long,
-        w,
-        16,
-        w / BIT_5 % 32 / GROUP * GROUP,
-        w / BIT_16 % 32 / GROUP * GROUP,
-        GROUP,
-        2 * (w / BIT_0 % 4),
-    )
+    za_fields::<GROUP>(Family::Long, w, 16, 2 * (w / BIT_0 % 4))
 }
 
 // The kind of a word of row A. Sizes 00 and 11 are reserved.
@@ -388,7 +361,7 @@ pub fn fields_of(kind: Kind, w: u32) -> Fields
     match kind {
         Kind::ByElement16 => fields_a::<16>(w),
         Kind::ByElement32 => fields_a::<32>(w),
-        Kind::Vector => fields_b(w, lane_b(w / BIT_22 % 4)),
+        Kind::Vector => fields_b(w),
         Kind::Saturating16 => fields_c::<16>(w),
         Kind::Saturating32 => fields_c::<32>(w),
         Kind::LongLong2 => fields_d::<2>(w),
