@@ -6,7 +6,6 @@ use mathlib.Core.List.{List, [], ◌∷◌}
 use lib.ListN.{length, get_or, take}
 use Rattle.laws.specs.Lists.{Each}
 use Rattle.laws.proofs.Tests.{by_lt}
-use Rattle.spelling.specs.Candidate.{row_parts}
 
 -- ---- numbers below another
 
@@ -33,9 +32,6 @@ pub each_all : (P : ℕ → Type 0) → P 0 → (vs : List ℕ) → Each P vs �
 each_all P z [] e i = z
 each_all P z (v ∷ vs) e zero = e.0
 each_all P z (v ∷ vs) e (suc i) = each_all P z vs e.1 i
-
-pub part_small : (k : ℕ) → k < 18 → get_or row_parts k 0 < 2
-part_small = each_front (λ (v : ℕ). v < 2) (omega arith) 18 row_parts (omega arith)
 
 -- past its end a list has zeros
 pub past_end : (vs : List ℕ) (i : ℕ) → length vs ≤ i → get_or vs i 0 ≡ 0

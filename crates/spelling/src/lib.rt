@@ -202,40 +202,21 @@ fn values_of(f: Fields) -> [u32; 26]
     requires { Figures f }
     ensures { result ≡ letter_values f }
 {
-    let p = last_offset(f.family, f.offset);
-    let s = u32::from(if f.subtract { b's' } else { b'a' });
-    let t = u32::from(if f.part == 0 { b'b' } else { b't' });
-    let u = u32::from(if f.unsigned { b'u' } else { b's' });
-    let k = f.first + f.group - 1;
-    let l = f.second + f.group - 1;
-    [
-        0,
-        0,
-        0,
-        f.destination,
-        0,
-        0,
-        f.group,
-        0,
-        f.index,
-        0,
-        k,
-        l,
-        f.second,
-        f.first,
-        f.offset,
-        p,
-        0,
-        f.select,
-        s,
-        t,
-        u,
-        0,
-        0,
-        0,
-        0,
-        0,
-    ]
+    let mut values = [0; 26];
+    values[(b'D' - b'A') as usize] = f.destination;
+    values[(b'N' - b'A') as usize] = f.first;
+    values[(b'K' - b'A') as usize] = f.first + f.group - 1;
+    values[(b'M' - b'A') as usize] = f.second;
+    values[(b'L' - b'A') as usize] = f.second + f.group - 1;
+    values[(b'G' - b'A') as usize] = f.group;
+    values[(b'I' - b'A') as usize] = f.index;
+    values[(b'R' - b'A') as usize] = f.select;
+    values[(b'O' - b'A') as usize] = f.offset;
+    values[(b'P' - b'A') as usize] = last_offset(f.family, f.offset);
+    values[(b'S' - b'A') as usize] = u32::from(if f.subtract { b's' } else { b'a' });
+    values[(b'T' - b'A') as usize] = u32::from(if f.part == 0 { b'b' } else { b't' });
+    values[(b'U' - b'A') as usize] = u32::from(if f.unsigned { b'u' } else { b's' });
+    values
 }
 
 // The text of a word's fields by a row.

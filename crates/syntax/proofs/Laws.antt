@@ -86,9 +86,6 @@ two_figures n l h =
     let b : n % 10 < 10 = omega arith in
     rw (decimal_more n l, decimal_one (n / 10) a, glyph_is (n / 10) a, glyph_is (n % 10) b)
 
-pub tens_fit : (n : ℕ) → n < 100 → 48 + n / 10 < 256
-tens_fit n h = omega arith
-
 -- a number that no digit follows is read back from its digits, and passed
 abbrev NumberFirst : ℕ → ℕ → List ℕ → Type 0
 NumberFirst c x t =

@@ -56,9 +56,6 @@ says_of_lem vs c v e =
 
 -- ---- a byte of a row is written
 
-pub says_byte : (c v : ℕ) → is_number c ≡ false → v ∷ [] ≡ says_of c v
-says_byte c v n = rw n
-
 pub says_one : (c v : ℕ) → is_number c ≡ true → v < 10 → (48 + v) ∷ [] ≡ says_of c v
 says_one c v n l = one_figure v l ∙ rw n
 
