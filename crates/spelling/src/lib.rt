@@ -246,6 +246,7 @@ fn print_fields(room: &mut [u8], f: Fields) -> Result<usize, Refusal>
 }
 
 // The preferred text of a word, at the start of the room, and its length. Refusals 1, 3, 12.
+// Kept: the room is lent and the answer is a length, since `callinglamp_print` hands C's room on.
 pub fn print(settings: Settings, word: u32, room: &mut [u8]) -> Result<usize, Refusal>
     ensures { PrintPromise settings word room.old result room.new }
 {

@@ -89,6 +89,7 @@ pub fn scan(text: &[u8], row: &[u8]) -> Option<[u32; 26]>
     ensures { result ≡ cond (fits row.now text.now) (Some (taken row.now text.now (replicate 26 0))) None }
 {
     let mut values = [0; 26];
+    // Kept: a place, and not what is left of the text, since a letter may pass bytes that a text lacks.
     let mut at = 0;
     for c in row {
         let a = byte_at(text, at);

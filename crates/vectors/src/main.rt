@@ -36,6 +36,7 @@ fn byte_at(line: &[u8], at: usize) -> u8 {
 }
 
 // The value of a digit: `0` to `9` are the bytes 48 to 57, and `A` to `F` 65 to 70.
+// Kept: `to_digit` answers nothing for other bytes, and a line of any bytes is judged as it was.
 fn digit(byte: u8) -> u32
     ensures { result < 16 }
 {
