@@ -4,10 +4,9 @@
 ghost use Rattle.std.specs.Prelude.{◌≡◌, cond};
 ghost use Rattle.settings.specs.Valid.{valid_settings};
 ghost use Rattle.settings.specs.Refused.{refusal_number, word_says};
-ghost use Rattle.words.specs.Numbers.{family_of};
 ghost use Rattle.words.specs.Decode.{decoded_says};
 ghost use Rattle.spelling.specs.Print.{printed_says};
-ghost use Rattle.packing.specs.Packing.{halves, field_numbers, are_fields, fields_with, fields_from, decoded_into, ExecutedPut, FitsHalf, RanPut, TextFits};
+ghost use Rattle.packing.specs.Packing.{halves, field_numbers, fields_from, decoded_into, ExecutedPut, FitsHalf, RanPut, TextFits};
 
 use numbers::Fault;
 use runlist::Ran;
@@ -18,55 +17,17 @@ use words::{Family, Fields};
 // What 1 in the high half of an answer counts.
 const HIGH_HALF: u64 = 4294967296;
 
-// The places of the fields among their twelve numbers, as include/callinglamp.h names them.
-const FAMILY: usize = 0;
-
-const UNSIGNED: usize = 1;
-
-const SUBTRACT: usize = 2;
-
-const LANE: usize = 3;
-
-const PART: usize = 4;
-
-const INDEX: usize = 5;
-
-const DESTINATION: usize = 6;
-
-const FIRST: usize = 7;
-
-const SECOND: usize = 8;
-
-const GROUP: usize = 9;
-
-const SELECT: usize = 10;
-
-const OFFSET: usize = 11;
-
 // The refusal number in the low half, and in the high half what the call gives beside it.
 fn of_halves(refusal: u32, value: u32) -> u64
     ensures { halves result ≡ (refusal, value) }
 {
-    value as u64 * HIGH_HALF + refusal as u64
+    u64::from(value) * HIGH_HALF + u64::from(refusal)
 }
 
 fn refused(refusal: Refusal, value: u32) -> u64
     ensures { halves result ≡ (refusal_number refusal, value) }
 {
     of_halves(u32::from(refusal), value)
-}
-
-// The family of a number from 1 to 5.
-fn family_of(number: u32) -> Family
-    ensures { result ≡ family_of number }
-{
-    match number {
-        1 => Family::ByElement,
-        2 => Family::Vector,
-        3 => Family::Saturating,
-        4 => Family::LongLong,
-        _ => Family::Long,
-    }
 }
 
 // Each field at its place.
@@ -89,42 +50,41 @@ fn put_fields(f: Fields, numbers: &mut [u32; 12])
     ];
 }
 
-fn are_fields(numbers: &[u32; 12]) -> bool
-    ensures { result ≡ are_fields numbers.now }
-{
-    (1 <= numbers[FAMILY])
-        & (numbers[FAMILY] <= 5)
-        & (numbers[UNSIGNED] <= 1)
-        & (numbers[SUBTRACT] <= 1)
-}
-
-fn fields_with(family: Family, numbers: &[u32; 12]) -> Fields
-    ensures { result ≡ fields_with family numbers.now }
-{
-    Fields {
-        family: family,
-        unsigned: numbers[UNSIGNED] == 1,
-        subtract: numbers[SUBTRACT] == 1,
-        lane: numbers[LANE],
-        part: numbers[PART],
-        index: numbers[INDEX],
-        destination: numbers[DESTINATION],
-        first: numbers[FIRST],
-        second: numbers[SECOND],
-        group: numbers[GROUP],
-        select: numbers[SELECT],
-        offset: numbers[OFFSET],
-    }
-}
-
-// The fields that twelve numbers stand for, if they stand for any.
+// The fields that twelve numbers stand for, if they stand for any: each at its place, as include/callinglamp.h names them.
 pub fn fields_from(numbers: &[u32; 12]) -> Option<Fields>
     ensures { result ≡ fields_from numbers.now }
 {
-    if !are_fields(numbers) {
+    let [
+        family,
+        unsigned,
+        subtract,
+        lane,
+        part,
+        index,
+        destination,
+        first,
+        second,
+        group,
+        select,
+        offset,
+    ] = *numbers;
+    if (unsigned > 1) | (subtract > 1) {
         return None;
     }
-    Some(fields_with(family_of(numbers[FAMILY]), numbers))
+    Some(Fields {
+        family: Family::try_from(family).ok()?,
+        unsigned: unsigned == 1,
+        subtract: subtract == 1,
+        lane,
+        part,
+        index,
+        destination,
+        first,
+        second,
+        group,
+        select,
+        offset,
+    })
 }
 
 // An answer, as numbers: a word's fields go into `fields`.
