@@ -201,6 +201,8 @@ fn renew_by<const LANE: usize, const WIDE: usize>(
 // D, E: `bytes` bytes of za from `at` on become new. Element e, of `wide` bits, takes the product of the lanes at the same distance from bytes x and y
 // of z as it has from `at`. Answers how many bits rose and fell. The lane and the width go on as constants, so that the compiler makes a loop of its own
 // for each; with elements of 64 bits the operation goes on as literals.
+// It has two callers once it is compiled, and a call for each vector took 25 instructions more: hence the attribute.
+#[inline(always)]
 pub fn renew(
     lane: usize,
     wide: usize,
