@@ -32,7 +32,12 @@ pub fn partner(settings: Settings, word: u32) -> Result<u32, Refusal>
 }
 
 // Executes one word on Z and ZA. Refusals 1, 2, 3, 4, which leave both as they are.
-pub fn execute(settings: Settings, word: u32, z: &mut [u8], za: &mut [u8]) -> Result<Counts, Refusal>
+pub fn execute(
+    settings: Settings,
+    word: u32,
+    z: &mut [u8],
+    za: &mut [u8],
+) -> Result<Counts, Refusal>
     ensures { ExecutePromise settings word z.old za.old result z.new za.new }
 {
     machine::execute(settings, word, z, za)
