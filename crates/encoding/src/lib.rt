@@ -109,6 +109,7 @@ fn kind_with(f: Fields) -> Option<Kind>
 }
 
 // The only word of the kind that can have the fields.
+// Kept: a `match` on the kind, as in `words::fields_of`.
 fn candidate(kind: Kind, f: Fields) -> u32
     ensures { result ≡ built_as kind f }
 {

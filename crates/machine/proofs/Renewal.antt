@@ -28,17 +28,6 @@ use Rattle.recipes.proofs.Inside.{new_length_lem, length-new_bytes, inside}
 use Rattle.lanes.proofs.Built.{new_bytes_within}
 use Rattle.machine.specs.Loop.{made, RegisterRenewed, RegisterWritten, IntoV, IntoZa, Sources, Places}
 
--- ZA has 65,536 bytes at most
-array_small : {w : ℕ} → VectorLength w → w * w ≤ 65536
-array_small v = mul-le-mul v.most v.most
-
--- one of the 32 registers ends by byte 8,192; one of the vectors of ZA by byte 65,536
-pub register_small : {w : ℕ} → VectorLength w → (x : ℕ) → x < 32 → x * w + w ≤ 8192
-register_small {w} v x h = omega (arith, within x 32 w h, v.most)
-
-pub vector_small : {w : ℕ} → VectorLength w → (x : ℕ) → x < w → x * w + w ≤ 65536
-vector_small {w} v x h = omega (arith, within x w w h, array_small v)
-
 two_or_four : {n : ℕ} → (n ≡ 2) ⊎ (n ≡ 4) → 0 < n
 two_or_four (inl e) = omega arith
 two_or_four (inr e) = omega arith
@@ -109,12 +98,6 @@ module _ {f : Fields} {w : ℕ} {z : List ℕ} (p : Sources f w z) where
     fit : f.destination * w + length renewed_bytes ≤ length z
     fit = omega (arith, sixteen, p.width.least, register_there f.destination p.ranges.destination)
 
-    pub clear_there : (f.destination * w + 16 + (w - 16) ≤ length z') × (((w - 16) % 8 ≡ 0) × (w - 16 ≤ 65536))
-    clear_there = (
-      omega (arith, p.width.least, register_there f.destination p.ranges.destination, ap length r.after ∙ length-splice _ renewed_bytes z fit),
-      (omega (arith, p.width.whole), omega (arith, p.width.most)),
-    )
-
     module _ {c : Toggles} {z'' : List ℕ} (q : Replaced (f.destination * w + 16) c (zeros (w - 16)) z' z'') where
       pub counts_small : (t.rises + c.rises ≤ 4096) × (t.falls + c.falls ≤ 4096)
       counts_small = (
@@ -141,28 +124,7 @@ module _ {f : Fields} {w : ℕ} {z : List ℕ} (p : Sources f w z) where
     of_c : OfC f.lane
     of_c = (in_family f p.ranges Saturating c).1
 
-    -- the registers that it takes are there
-    pub step_places : ((f.family ≡ Saturating) × OfC f.lane) × RegistersThere (recipe_of Saturating f 0) bytes z (f.destination * w) (f.first * w) (f.second * w)
-    step_places =
-        let g = p.ranges in
-        let l = source_lt f g in (
-          (c, of_c),
-          record {
-            inside = rw eb (rw c at (inside f g w p.width 0 first_source));
-            old = omega (arith, register_there f.destination g.destination);
-            first = omega (arith, register_there f.first l.0);
-            second = omega (arith, register_there f.second l.1);
-          },
-        )
-
     module _ (out : List ℕ) (long : length out ≡ bytes) where
-      pub step_room : (f.destination * w + length out ≤ length z) × (length out % 8 ≡ 0) × (length out ≤ 65536)
-      step_room = (
-        omega (arith, register_there f.destination p.ranges.destination),
-        omega (arith, p.width.whole),
-        omega (arith, p.width.most),
-      )
-
       -- what the loop built is put into its place
       pub step_renewal : (z' : List ℕ) (t : Toggles)
           → out ≡ new_bytes (recipe_of f.family f 0) bytes (drop (f.destination * w) z) (drop (f.first * w) z) (drop (f.second * w) z)

@@ -53,28 +53,6 @@ module _ {f : Fields} {w : ℕ} {z : List ℕ} (p : Sources f w z) where
   at_half : (x : ℕ) → Half x ≡ x * w + f.part * (64 / f.lane) * (f.lane / 8)
   at_half x = ap (λ (n : ℕ). x * w + n) (half_bytes p.ranges.lane f.part)
 
-  -- so many elements there are in a V register
-  abbrev Many : ℕ
-  Many = 8 * 16 / (2 * f.lane)
-
-  half_there : (x : ℕ) → x < 32 → Reach f.lane Many z (Half x) 1
-  half_there x h = reach p x _ 1 Many (Half x) h (at_half x) (half_in f.lane p.ranges.lane w p.width.least f.part p.ranges.part)
-
-  pub index_small : f.index * (f.lane / 8) ≤ 16
-  index_small = omega (arith, index_in f.lane p.ranges.lane 16 (lit≤ tt) f.index 0 p.ranges.index)
-
-  pub v_places : At + 16 ≤ length z
-  v_places = omega (arith, register_there p f.destination p.ranges.destination, p.width.least)
-
-  pub index_there : Reach f.lane Many z (Half f.first) 1 × Reach f.lane Many z Index 0
-  index_there = (
-    half_there f.first (source_lt f p.ranges).0,
-    reach p f.second f.index 0 Many Index (source_lt f p.ranges).1 refl (index_in f.lane p.ranges.lane w p.width.least f.index Many p.ranges.index),
-  )
-
-  pub pairs_there : Reach f.lane Many z (Half f.first) 1 × Reach f.lane Many z (Half f.second) 1
-  pairs_there = (half_there f.first (source_lt f p.ranges).0, half_there f.second (source_lt f p.ranges).1)
-
   -- the new bytes, where the second source is read from byte y on in steps of `by`
   abbrev New : ℕ → ℕ → List ℕ
   New y by = even_bytes f.lane (2 * f.lane) f.unsigned f.subtract z At z (Half f.first) 1 y by 16
@@ -119,41 +97,14 @@ module _ {f : Fields} {w : ℕ} {z za : List ℕ} (p : Places f w z za) (k : ℕ
   steps : k * f.lane / f.lane ≡ k
   steps = mul-div_cancel k (omega (arith, lane_range f.lane p.sources.ranges.lane))
 
-  pub wide_small : k * f.lane ≤ 64
-  wide_small = (width_range (k * f.lane) (array_chunk f.lane (k * f.lane) of_array).0.1.0).1
-
   module _ (r i : ℕ) (hr : r < f.group) (hi : i < k) where
     abbrev From : ℕ → ℕ
     From x = (x + r) * w + i * (f.lane / 8)
 
-    pub sources_lt : (f.first + r < 32) × (f.second + r < 32)
-    sources_lt = (omega (arith, p.sources.ranges.first), omega (arith, p.sources.ranges.second))
-
     found : i < per_source f.family
     found = subst (λ (n : ℕ). i < n) ek hi
 
-    in_register : Inside (wrapping f k (each k i) (each k i)) w w
-    in_register = rw (by-k f p.into k ek i, whole_vector p) at (inside f p.sources.ranges w p.sources.width i found)
-
-    pub from_small : i * (f.lane / 8) ≤ 256
-    from_small = omega (arith, in_register.first, p.sources.width.most)
-
-    pub lanes_there : Reach f.lane (8 * w / (k * f.lane)) z (From f.first) (k * f.lane / f.lane)
-        × Reach f.lane (8 * w / (k * f.lane)) z (From f.second) (k * f.lane / f.lane)
-    lanes_there =
-        rw steps (
-          reach p.sources (f.first + r) i k _ _ sources_lt.0 refl in_register.first,
-          reach p.sources (f.second + r) i k _ _ sources_lt.1 refl in_register.second,
-        )
-
     module _ (v : ℕ) where
-      pub vector_there : v < w → (v * w + w ≤ length za) × (w % 8 ≡ 0) × (w ≤ 65536)
-      vector_there h = (
-        omega (arith, next v w, room v w w za p.za_long h),
-        omega (arith, p.sources.width.whole),
-        omega (arith, p.sources.width.most),
-      )
-
       pub array_renewal : (za' : List ℕ) (t : Toggles)
           → Replaced (v * w) t (even_bytes f.lane (k * f.lane) f.unsigned f.subtract za (v * w) z (From f.first) (k * f.lane / f.lane) (From f.second) (k * f.lane / f.lane) w) za za'
           → Replaced (v * w) t (made f i w w v za (f.first + r) (f.second + r) z) za za'

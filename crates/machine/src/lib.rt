@@ -31,7 +31,8 @@ pub struct Machine<'a> {
     pub ghost ready: { Ready settings z.now za.now },
 }
 
-// Kept: fields, w, z and za go from function to function under `Sources` or `Places`; a struct of them would owe in each that it still holds the same.
+// Kept: fields, w, z and za go on under `Sources` or `Places`, in three functions each; a struct of them would owe in each that the rest stays the same,
+// as `same` in the four methods of `Machine`: as many clauses as there are now.
 
 // A, B: the V register, the low 16 bytes of the destination, becomes new; registers have w bytes. In A each element takes the one lane at the index of
 // the second source, and in B its own. Answers how many bits rose and fell.
@@ -49,6 +50,7 @@ fn step_v(fields: Fields, w: usize, z: &mut [u8]) -> Toggles
         unsigned: fields.unsigned,
         subtract: fields.subtract,
     };
+    // Kept: a `match` on the family, as in `step_files`.
     match fields.family {
         Family::ByElement => {
             let index = fields.index as usize * (lane / 8);
@@ -170,7 +172,7 @@ pub fn right_lengths(settings: Settings, z: usize, za: usize) -> bool
     (z == 32 * register) & (za == vector * vector)
 }
 
-// Kept: a function of its own, since `Fields` is another crate's type and the families' written counts are this crate's.
+// Kept: no method, since `Fields` is another crate's type; and an arm for each family, since the edits `written_128` and `written_of_d_for_e` turn one each.
 fn written_bits(settings: Settings, fields: Fields) -> u32
     requires { (settings.vl ≤ 2048) × (fields.group ≤ 32) }
     ensures { result ≡ written settings fields }
@@ -259,7 +261,7 @@ impl<'a> Machine<'a> {
     }
 }
 
-// 3, 4, or the step: for callers that have tested the settings and the lengths.
+// 3, 4, or the step, where the settings and the lengths are tested.
 pub fn execute_word(
     settings: Settings,
     word: u32,

@@ -1,4 +1,5 @@
 // What C passes and gets, as numbers: an answer is one number of 64 bits, a word's fields are twelve numbers, and counts and totals stand in arrays.
+// Kept: numbers and places in arrays, which include/callinglamp.h fixes.
 #![tactic(auto)]
 
 ghost use Rattle.std.specs.Prelude.{◌≡◌, cond};

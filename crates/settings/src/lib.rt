@@ -5,8 +5,8 @@ ghost use Rattle.settings.specs.Sets.{has_features, has_modes, named_numbers};
 ghost use Rattle.settings.specs.Valid.{valid_length, valid_features, valid_modes, valid_settings, vector_bytes, array_bytes};
 ghost use Rattle.settings.specs.Refused.{refusal_number};
 
-// A set of features: the sum of the numbers of those that are there. Kept: a rule of the project (docs/FORMS.md) names this form, a type with associated
-// constants and a `contains` function; any number of 32 bits may be given, and the settings refuse what is no sum.
+// A set of features: the sum of the numbers of those that are there. Any number of 32 bits may be given, and the settings refuse what is no sum.
+// Kept: a rule of the project (docs/FORMS.md) names this form, a type with associated constants and a `contains` function, also for `Modes`.
 #[derive(Clone, Copy)]
 pub struct Features(pub u32);
 
@@ -44,7 +44,7 @@ impl Modes {
     pub const ZA: Modes = Modes(2);
 
     // Whether each mode of `named` is among these. A number that is no sum of the two is contained in nothing.
-    // Kept: one function of both sets would test five bits also where there are two; docs/FORMS.md names a `contains` of each.
+    // Kept: docs/FORMS.md names a `contains` of each set, and the tests are by `/` and `%`, since a mask does not close (docs/PROOFS.md, 2).
     pub fn contains(self, named: Modes) -> bool
         ensures { result ≡ has_modes self.0 named.0 }
     {
@@ -174,6 +174,7 @@ impl Settings {
     }
 
     // The bytes of a ZA vector, and the number of ZA vectors.
+    // Kept: the same as `vector_bytes` where there is one length; docs/ARCHITECTURE.md keeps the two apart for cores with two.
     #[tactic(auto, unfolding(crate::specs::Valid::array_bytes))]
     pub fn array_bytes(self) -> u32
         ensures { result ≡ array_bytes self }

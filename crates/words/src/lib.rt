@@ -159,6 +159,8 @@ fn is_e<const GROUP: u32>(w: u32) -> bool
         & (w / BIT_21 % 2048 == 0b11000001111)
 }
 
+// Kept: `IsWide` and `IsGroup` stand in each function of a row, here and in `encoding`: a const parameter carries no invariant.
+
 // The fields of a word of A whose lane is LANE. M is the last bit of the index where the lane is 16, and the first of the second
 // source's number where it is 32.
 fn fields_a<const LANE: u32>(w: u32) -> Fields
@@ -355,6 +357,7 @@ impl From<Kind> for Family {
 
 // The fields of a word of the kind. Fields that pass through memory cost more than finding them: encode took 249 instructions a word
 // with this function called, and takes 198.
+// Kept: a `match` on the kind, which a word says; a table of functions by kind would hold function pointers, each with its own clauses.
 #[inline(always)]
 #[tactic(auto, unfolding(crate::specs::Kinds::fields_as))]
 pub fn fields_of(kind: Kind, w: u32) -> Fields
@@ -378,8 +381,7 @@ fn enables_family(features: Features, family: Family, lane: u32) -> bool
     ensures { result ≡ enables_family features.0 family lane }
 {
     match family {
-        Family::ByElement => features.contains(Features::ADV_SIMD),
-        Family::Vector => features.contains(Features::ADV_SIMD),
+        Family::ByElement | Family::Vector => features.contains(Features::ADV_SIMD),
         Family::Saturating => features.contains(Features::SVE2) | features.contains(Features::SME),
         Family::LongLong => {
             features.contains(Features::SME2) & ((lane == 8) | features.contains(Features::I16I64))
@@ -435,8 +437,7 @@ fn partner_in(family: Family, word: u32) -> Result<u32, Refusal>
         Family::ByElement => Ok(word ^ BIT_14),
         Family::Vector => Ok(word ^ BIT_13),
         Family::Saturating => Err(Refusal::NoPartner),
-        Family::LongLong => Ok(word ^ BIT_3),
-        Family::Long => Ok(word ^ BIT_3),
+        Family::LongLong | Family::Long => Ok(word ^ BIT_3),
     }
 }
 
@@ -447,6 +448,6 @@ pub fn partner(settings: Settings, word: u32) -> Result<u32, Refusal>
     if !settings.valid() {
         return Err(Refusal::BadSettings);
     }
-    let kind = enabled_kind(settings.features, word)?;
-    partner_in(Family::from(kind), word)
+    let found = enabled_kind(settings.features, word)?;
+    partner_in(Family::from(found), word)
 }

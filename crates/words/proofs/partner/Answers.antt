@@ -9,14 +9,14 @@ use Rattle.words.proofs.partner.Goals as goal
 pub returns-then-not-valid : goal.returns-then-not-valid
 returns-then-not-valid c = sym (partner_not_valid c.args.settings c.args.word (sym c.valid.ensures ∙ c.if-not-valid.true))
 
-pub returns-in_err-kind : goal.returns-in_err-kind
-returns-in_err-kind c =
+pub returns-in_err-found : goal.returns-in_err-found
+returns-in_err-found c =
     let p = err_from_is_err_and c.from_residual.result c.from_residual.ensures.1 in
-    let q = MatchResult-at_err _ _ _ c.in_err-kind.was c.enabled_kind.ensures in
+    let q = MatchResult-at_err _ _ _ c.in_err-found.was c.enabled_kind.ensures in
     rw (p.1, p.2 ∙ q.0) (sym (partner_not_enabled c.args.settings c.args.word (sym c.valid.ensures ∙ c.if-not-valid.false) q.1))
 
 pub returns : goal.returns
 returns c =
     c.partner_in.ensures
     ∙ ap (λ (family : Family). partner_in family c.args.word) c.from.ensures
-    ∙ sym (partner_by_kind c.args.settings c.args.word (sym c.valid.ensures ∙ c.if-not-valid.false) _ (MatchResult-at_ok _ _ _ c.in_ok-kind.was c.enabled_kind.ensures))
+    ∙ sym (partner_by_kind c.args.settings c.args.word (sym c.valid.ensures ∙ c.if-not-valid.false) _ (MatchResult-at_ok _ _ _ c.in_ok-found.was c.enabled_kind.ensures))
