@@ -7,14 +7,14 @@ use native.Mathlib.Omega.{arith}
 use lib.ListN.{length, get_or, take, drop, length-append}
 use lib.Arith.{digits_div, digits_mod}
 use lib.Bits.{differ}
-use Rattle.elements.specs.Elements.{element_at, element, put_at, splice}
+use Rattle.elements.specs.Elements.{element_at, element, put_at, splice, zeros}
 use Rattle.elements.proofs.Elements.{Bytes, pow256, element_at_lt, element_at_same, length_put, put_after}
 use Rattle.elements.proofs.Vectors.{put_each, put_each_turn, put_each_after, put_each-splice, length-put_each, vector_own}
 use Rattle.elements.proofs.Files.{length-splice, drop-splice, splice_behind}
 use Rattle.bits.specs.Bits.{over_bits, over_bytes, rose, fell, rises, falls, toggles, word_toggles}
 use Rattle.bits.specs.Replace.{Replaced}
 use Rattle.bits.specs.declared.Toggles.{Toggles}
-use Rattle.bits.proofs.Bits.{Unmoved, differ_unmoved, rose_unmoved, fell_unmoved, differ_once, bits_split, bits_mod, bits_same, bytes-set, bytes_splice_add, bytes_splice_le, toggled_differs, rises_same, falls_same}
+use Rattle.bits.proofs.Bits.{Unmoved, differ_unmoved, rose_unmoved, fell_unmoved, differ_once, bits_split, bits_mod, bits_same, bytes-set, bytes_splice_add, bytes_splice_le, toggled_differs, rises_same, falls_same, bytes-splice, rises-zeros}
 
 module _ (f : ℕ → ℕ → ℕ) where
   -- the bits of one byte more
@@ -138,6 +138,17 @@ both file₀ new at fit long by by' u v t after after' file file' ea ea' eu ef e
     (eu ∙ ap (λ (k : ℕ). word_toggles (element_at 8 k file₀) after) here) (omega arith, omega arith) (ef ∙ ap (λ (k : ℕ). put_at 8 k after file₀) here) in
     let second = word_turn file₀ new at room eights 1 u v t after' file file' by (omega arith) first.0 first.1 ea' ev es ef' in
     word_end file₀ new at room eights 2 t file' by' (sym long) second.0 second.1
+
+-- ---- zeros
+
+-- where bytes become zeros, no bit rises
+pub cleared_rise : (at bytes : ℕ) (file : List ℕ) (t : Toggles) (file' : List ℕ) → at + length (zeros bytes) ≤ length file → Replaced at t (zeros bytes) file file'
+    → t.rises ≡ 0
+cleared_rise at bytes file t file' fit p =
+    ap (λ (b : Toggles). b.rises) p.bits
+    ∙ ap (rises file) p.after
+    ∙ bytes-splice rose rose_unmoved at (zeros bytes) file fit
+    ∙ rises-zeros (take (length (zeros bytes)) (drop at file)) bytes
 
 -- ---- two parts
 

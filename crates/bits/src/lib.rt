@@ -1,9 +1,9 @@
 #![tactic(auto)]
 
 ghost use Rattle.std.specs.Prelude.{◌≡◌, ◌+◌, ◌%◌, ◌^◌, ◌<◌, ◌≤◌, length};
-ghost use Rattle.elements.specs.Elements.{element_at, put_at, zeros};
+ghost use Rattle.elements.specs.Elements.{element_at, put_at};
 ghost use Rattle.bits.specs.Bits.{word_toggles};
-ghost use Rattle.bits.specs.Replace.{Replaced};
+ghost use Rattle.bits.specs.Replace.{Replaced, Cleared};
 
 use std::ops::{Add, AddAssign};
 
@@ -82,11 +82,11 @@ pub fn replace(file: &mut [u8], at: usize, new: &[u8]) -> Toggles
 }
 
 // The bytes of the file from a place on become zeros, and none of its bits rises. It goes by eight bytes, as `replace` does.
-// Kept: beside `replace`, since one function of both would take a closure for the new words, and be no plainer than two loops of two lines.
+// Kept: beside `replace`, which would have to be lent as many zeros as `clear` promises to write, up to 65,536.
 pub fn clear(file: &mut [u8], at: usize, bytes: usize) -> Toggles
     requires bytes_in_bounds { at + bytes ≤ length file.old }
     requires bytes_value { (bytes % 8 ≡ 0) × (bytes ≤ 65536) }
-    ensures { Replaced at result (zeros bytes) file.old file.new }
+    ensures { Cleared at bytes result file.old file.new }
 {
     let mut toggles = Toggles::default();
     for word in 0..bytes / 8 {

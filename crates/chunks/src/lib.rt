@@ -55,6 +55,7 @@ fn step_chunk<const LANE: usize, const WIDE: usize>(
 }
 
 // The eight elements of 16 bits from `at` on after a step, aside: nothing is read after it is written, and the compiler may do all eight at once.
+// Kept: z, at, x, y and by go from function to function as `even_bytes` names them in each clause; `Source` holds the two that are one thing.
 fn eight(operation: Operation, z: &[u8], at: usize, x: usize, y: usize, by: usize, new: &mut [u8])
     requires len { length new.old ≡ 16 }
     requires at_in_bounds { (at + 16 ≤ length z.now) × ((x + 8 ≤ length z.now) × (y + 7 * by + 1 ≤ length z.now)) }
@@ -166,6 +167,7 @@ pub fn renew_v(
 }
 
 // `renew` for one lane and one width. It goes by eight bytes, and reads and counts them where it writes them.
+// Kept: beside `renew`: the loop for one lane is here, and the choice of it by what a word says is there.
 fn renew_by<const LANE: usize, const WIDE: usize>(
     operation: Operation,
     za: &mut [u8],
@@ -199,8 +201,7 @@ fn renew_by<const LANE: usize, const WIDE: usize>(
 }
 
 // D, E: `bytes` bytes of za from `at` on become new. Element e, of `wide` bits, takes the product of the lanes at the same distance from bytes x and y
-// of z as it has from `at`. Answers how many bits rose and fell. The lane and the width go on as constants, so that the compiler makes a loop of its own
-// for each; with elements of 64 bits the operation goes on as literals.
+// of z as it has from `at`. Answers how many bits rose and fell. The lane and the width go on as constants, so that the compiler makes a loop for each.
 // It has two callers once it is compiled, and a call for each vector took 25 instructions more: hence the attribute.
 #[inline(always)]
 pub fn renew(

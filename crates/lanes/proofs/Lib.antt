@@ -4,3 +4,4 @@ pub mod Widths
 pub mod Wrapping
 pub mod Saturation
 pub mod Built
+pub mod AnyWidth

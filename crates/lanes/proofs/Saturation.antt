@@ -68,13 +68,13 @@ twice : (z : ℤ) → z +ℤ z ≡ pos 2 *ℤ z
 twice z = omega (arith, ints)
 
 -- the whole step, where each sum is clamped to 64 bits first
-pub sat_is : (lane wide : ℕ) (subtract : Bool) (acc x y r u : ℕ) (p t d b a k : ℤ) → wide ≤ 64 → p ≡ s_int lane x *ℤ s_int lane y
+pub sat_step_is : (lane wide : ℕ) (subtract : Bool) (acc x y r u : ℕ) (p t d b a k : ℤ) → wide ≤ 64 → p ≡ s_int lane x *ℤ s_int lane y
     → t ≡ saturate_to_bits 63 (p +ℤ p) → d ≡ signed_sat wide t → b ≡ s_int wide acc
     → a ≡ saturate_to_bits 63 (add_sub subtract b d) → k ≡ signed_sat wide a
     → FitsSigned w64 k → u ≡ cast_unsigned w64 k → r ≡ u % 2 ^ wide
     → (r ≡ sat_step lane wide subtract acc x y) × (r < 2 ^ wide)
 unfolding sat_step
-sat_is lane wide subtract acc x y r u p t d b a k h ep et ed eb ea ek lk eu er =
+sat_step_is lane wide subtract acc x y r u p t d b a k h ep et ed eb ea ek lk eu er =
     let again : (z : ℤ) → signed_sat wide (saturate_to_bits 63 z) ≡ signed_sat wide z =
     λ z. saturates wide (saturate_to_bits 63 z) ∙ saturate_again (wide - 1) 63 z (omega arith) ∙ sym (saturates wide z) in
     let doubled : d ≡ signed_sat wide (pos 2 *ℤ (s_int lane x *ℤ s_int lane y)) =

@@ -44,18 +44,18 @@ wrap_back m s t r h k e =
 
 -- ---- the sum or difference modulo 2 to its width
 
-pub added : (n a p r : ℕ) → r ≡ (a + p) % 2 ^ n → r ≡ accumulate n false a p
+pub added_to : (n a p r : ℕ) → r ≡ (a + p) % 2 ^ n → r ≡ accumulate n false a p
 unfolding accumulate
-added n a p r e = e ∙ sym (low-pos n (a + p))
+added_to n a p r e = e ∙ sym (low-pos n (a + p))
 
-pub subtracted : (n a p r : ℕ) → a < 2 ^ n → p < 2 ^ n → r ≡ (a + (2 ^ n - p)) % 2 ^ n → r ≡ accumulate n true a p
+pub subtracted_from : (n a p r : ℕ) → a < 2 ^ n → p < 2 ^ n → r ≡ (a + (2 ^ n - p)) % 2 ^ n → r ≡ accumulate n true a p
 unfolding accumulate
-subtracted n a p r la lp e =
+subtracted_from n a p r la lp e =
     let l : r < 2 ^ n = rw e (mod-lt _ (pow_pos n)) in
     sym (low_sub n a p r l (wrap_back (2 ^ n) a p r la (omega arith) e ∙ sym (mod-eq_of_lt la)))
 
 -- the step does so with the low bits of the product
-pub lane_is : (lane wide : ℕ) (unsigned subtract : Bool) (a x y p r : ℕ) → wide ≤ 64 → p ≡ product lane 64 unsigned x y
+pub lane_step_is : (lane wide : ℕ) (unsigned subtract : Bool) (a x y p r : ℕ) → wide ≤ 64 → p ≡ product lane 64 unsigned x y
     → r ≡ accumulate wide subtract a (p % 2 ^ wide) → r ≡ lane_step lane wide unsigned subtract a x y
 unfolding lane_step
-lane_is lane wide unsigned subtract a x y p r h ep er = er ∙ ap (accumulate wide subtract a) (product_low lane wide 64 unsigned x y p h ep)
+lane_step_is lane wide unsigned subtract a x y p r h ep er = er ∙ ap (accumulate wide subtract a) (product_low lane wide 64 unsigned x y p h ep)

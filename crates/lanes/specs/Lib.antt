@@ -1,4 +1,5 @@
 pub mod Lane
+pub mod Signed
 pub mod Widths
 pub mod Examples
 pub mod Recipe

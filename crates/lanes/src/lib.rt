@@ -22,6 +22,7 @@ fn low_bits<const BITS: usize>(x: u64) -> u64
 }
 
 // The integer of an element, signed.
+// Kept: a `match` on a constant, of which the compiler keeps one arm; a trait over u8 to u64 would have four impls of one line in place of the arms.
 fn signed<const BITS: usize>(x: u64) -> i64
     requires width { IsWidth BITS }
     requires x_bound { x < 2 ^ BITS }
@@ -36,6 +37,7 @@ fn signed<const BITS: usize>(x: u64) -> i64
 }
 
 // The product of two lanes, modulo 2 to 64.
+// Kept: `x < 2 ^ LANE` and `acc < 2 ^ WIDE` in each contract: a const parameter carries no invariant; a type for such numbers would be unwrapped in each line.
 fn product<const LANE: usize>(unsigned: bool, x: u64, y: u64) -> u64
     requires lane { IsLane LANE }
     requires x_bound { (x < 2 ^ LANE) × (y < 2 ^ LANE) }
@@ -50,6 +52,7 @@ fn product<const LANE: usize>(unsigned: bool, x: u64, y: u64) -> u64
 
 // The accumulator with the low bits of a product added to it or subtracted from it, by the wrapping sum or difference of its width. No accumulator has 8
 // bits, since it holds the product of two lanes.
+// Kept: a `match` on a constant, as in `signed`: a trait would have an impl for each width, of one line for the sum and one for the difference.
 fn accumulate<const WIDE: usize>(subtract: bool, acc: u64, product: u64) -> u64
     requires width { IsWidth WIDE × (16 ≤ WIDE) }
     requires acc_bound { acc < 2 ^ WIDE }
@@ -83,6 +86,7 @@ pub fn lane_step<const LANE: usize, const WIDE: usize>(
 }
 
 // An integer, clamped to those of so many bits.
+// Kept: a `match` on a constant, as in `signed`, of which the compiler keeps one arm; a trait would have an impl of one line in place of each.
 fn clamp<const BITS: usize>(z: i64) -> i64
     requires { IsWidth BITS }
     ensures { result ≡ signed_sat BITS z }
@@ -119,7 +123,8 @@ pub fn sat_step<const LANE: usize, const WIDE: usize>(
 }
 
 // An element of `WIDE` bits after a step, of the old one and of the lanes of `LANE` bits at bytes x and y. Of C, where it is saturating; then its lanes
-// are signed. All that is a literal where it is called, so that the compiler keeps no choice.
+// are signed. That, and the widths, are const parameters, so that the compiler keeps no choice of them.
+// Kept: an `if` on a constant, of which the compiler keeps one arm; a trait would have two impls of one line in place of the two arms.
 pub fn element<const SATURATING: bool, const LANE: usize, const WIDE: usize>(
     operation: Operation,
     old: u64,

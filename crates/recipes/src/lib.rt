@@ -11,6 +11,7 @@ use lanes::Operation;
 use words::Fields;
 
 // Element e of the register at byte `at` after a step, of the sources at bytes n and m.
+// Kept: fields, z, at, n and m go from function to function as the definitions of recipes name them in each clause.
 fn new_element<const LANE: usize, const WIDE: usize>(
     fields: Fields,
     z: &[u8],

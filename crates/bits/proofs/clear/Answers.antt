@@ -1,11 +1,11 @@
 use mathlib.Core.Path.{◌≡◌, refl, sym}
-use Prim.Native.Nat.{◌*◌}
+use Prim.Native.Nat.{◌+◌, ◌*◌, ◌≤◌}
 use lib.ListN.{length}
 use native.Mathlib.Omega.{arith}
 use Rattle.elements.specs.Elements.{zeros}
 use Rattle.elements.proofs.Elements.{length-zeros, Bytes-zeros, element_at-zeros}
 use Rattle.elements.proofs.Vectors.{put_each}
-use Rattle.bits.proofs.Put.{none_yet, word_turn, word_end}
+use Rattle.bits.proofs.Put.{none_yet, word_turn, word_end, cleared_rise}
 use Rattle.bits.proofs.clear.Goals as goal
 
 pub loop-word-init : goal.loop-word-init
@@ -24,5 +24,8 @@ loop-word-preserved c =
 pub returns : goal.returns
 returns c =
     let long : length (zeros c.args.bytes) ≡ c.args.bytes = length-zeros c.args.bytes in
-    word_end c.args.file.now (zeros c.args.bytes) c.args.at (omega arith) (rw long c.requires.bytes_value.0) c.loop-word.word c.loop-word.toggles c.loop-word.file
-    (Bytes-zeros c.args.bytes) (omega arith) c.loop-word.invariant.0 c.loop-word.invariant.1
+    let fit : c.args.at + length (zeros c.args.bytes) ≤ length c.args.file.now = omega arith in
+    let R =
+    word_end c.args.file.now (zeros c.args.bytes) c.args.at fit (rw long c.requires.bytes_value.0) c.loop-word.word c.loop-word.toggles c.loop-word.file
+    (Bytes-zeros c.args.bytes) (omega arith) c.loop-word.invariant.0 c.loop-word.invariant.1 in
+    (cleared_rise c.args.at c.args.bytes c.args.file.now c.loop-word.toggles c.loop-word.file fit R, R)

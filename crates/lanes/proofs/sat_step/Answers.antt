@@ -5,7 +5,7 @@ use Rattle.std.specs.Int.{w64, cast_unsigned, saturate_to_bits}
 use Rattle.std.specs.Int.RustNames.{FitsSigned}
 use Rattle.lanes.specs.Lane.{s_int, add_sub, signed_sat}
 use Rattle.lanes.proofs.Widths.{width_range}
-use Rattle.lanes.proofs.Saturation.{product_fits, sat_is}
+use Rattle.lanes.proofs.Saturation.{product_fits, sat_step_is}
 use Rattle.lanes.proofs.sat_step.Goals.{then-subtract, else-subtract}
 use Rattle.lanes.proofs.sat_step.Goals as goal
 
@@ -30,7 +30,7 @@ returns g c =
     let ek : c.clamp.result ≡ signed_sat g.row.WIDE c.if-subtract.after = simp c.if-subtract.after-is at c.clamp.ensures in
     let eu : c.cast_unsigned.result ≡ cast_unsigned w64 c.clamp.result = simp to_z-of_z at c.cast_unsigned.ensures in
     let all = λ (e : c.if-subtract.after ≡ saturate_to_bits 63 (add_sub c.args.subtract c.signed-before.result c.clamp-doubled.result)).
-    sat_is g.row.LANE g.row.WIDE c.args.subtract c.args.acc c.args.x c.args.y c.low_bits.result c.cast_unsigned.result
+    sat_step_is g.row.LANE g.row.WIDE c.args.subtract c.args.acc c.args.x c.args.y c.low_bits.result c.cast_unsigned.result
     (c.signed.result *ℤ c.signed-2.result) c.saturating_add.result c.clamp-doubled.result c.signed-before.result c.if-subtract.after c.clamp.result
     (width_range g.row.WIDE c.requires.widths.1.0).1 ep et ed c.signed-before.ensures e ek k eu c.low_bits.ensures in
     elim c.if-subtract.branch [
