@@ -104,9 +104,9 @@ static inline const char *callinglamp_refusal_text(uint32_t number)
     }
 }
 
-/* A call needs at most so many bytes of stack. Measured: run needs 5,112 on x86-64, and 7,752 where it is the first to
- * call memset of a C library that is linked dynamically; 1.2.0 took 4,888 and 5,536 compiled for an Arm, under an
- * emulator; every other call less than 2,200. */
+/* A call needs at most so many bytes of stack. Measured on x86-64: run needs 7,688 where it is the first to call memset
+ * of a C library that is linked dynamically; 1.2.0 took 5,536 compiled for an Arm, under an emulator; every other call
+ * less than 900. */
 enum { CALLINGLAMP_STACK = 16384 };
 
 /* settings[7]: VL, features, modes, W8, W9, W10, W11.
