@@ -321,7 +321,7 @@ fn word_by(text: &[u8], k: usize) -> Option<u32>
     requires { k < 18 }
     ensures { TheWord (SpellsBy k text.now) result }
 {
-    let values = syntax::scan(text, row_at(k).text)?;
+    let values = syntax::scan(text, row_at(k).text, [0; 26])?;
     compared(text, k, fields_of(k, &values))
 }
 
