@@ -333,6 +333,7 @@ fn word_by(text: &[u8], k: usize) -> Option<u32>
 pub fn word_of(text: &[u8]) -> Option<u32>
     ensures { TheWord (Spells text.now) result }
 {
+    // Kept: a `for`: of `find_map` the goal `TheWord (Spells text.now) c.find_map.result` stayed open: of a range the kit has a law for `find` only.
     for k in 0..ROWS.len() {
         if let Some(word) = word_by(text, k) {
             return Some(word);
