@@ -96,7 +96,7 @@ fn put_printed(list: &[u8], out: &mut ArrayString<TEXT>)
 }
 
 // Room for more than the longest list that is accepted: of a longer one these bytes decide how it is refused (`enough_read`).
-// Kept: that there is room for more is its contract.
+// Kept: no contract can name a constant alone, so that `longest` is below INPUT is said of what this hands out (`enough_read`).
 fn input_room() -> [u8; INPUT]
     ensures { (8192 ≡ length result) × (longest < length result) }
 {

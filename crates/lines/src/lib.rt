@@ -10,6 +10,7 @@ ghost use Rattle.lines.specs.Lines.{refused_line, counts_after, outcome, word_li
 use arrayvec::ArrayString;
 
 // Toggled, written and percent, to the line's end.
+#[tactic(auto, unfolding(crate::specs::Lines::counts_after))]
 fn counts(toggled: u32, written: u32) -> ArrayString<63>
     ensures { result.bytes ≡ counts_after [] toggled written }
 {
@@ -24,6 +25,8 @@ fn counts(toggled: u32, written: u32) -> ArrayString<63>
 }
 
 // What became of a word, to the line's end.
+// Kept: `refusal == 0`: the refusal is a number of the report, whose numbers are the C interface.
+#[tactic(auto, unfolding(crate::specs::Lines::outcome, crate::specs::Lines::counts_after))]
 fn outcome(refusal: u32, toggled: u32, written: u32) -> ArrayString<64>
     ensures { result.bytes ≡ outcome refusal toggled written }
 {
@@ -40,6 +43,7 @@ fn outcome(refusal: u32, toggled: u32, written: u32) -> ArrayString<64>
 }
 
 // The line of a word: its number from 1 on, the word, and what became of it.
+#[tactic(auto, unfolding(crate::specs::Lines::word_line))]
 fn word_line(number: usize, word: u32, refusal: u32, toggled: u32, written: u32) -> ArrayString<93>
     ensures { result.bytes ≡ word_line number word refusal toggled written }
 {
@@ -52,6 +56,7 @@ fn word_line(number: usize, word: u32, refusal: u32, toggled: u32, written: u32)
 }
 
 // How many words a list has.
+#[tactic(auto, unfolding(crate::specs::Lines::words_line))]
 fn words_line(words: usize) -> ArrayString<27>
     ensures { result.bytes ≡ words_line words }
 {
@@ -62,6 +67,7 @@ fn words_line(words: usize) -> ArrayString<27>
     line
 }
 
+#[tactic(auto, unfolding(crate::specs::Lines::total_line, crate::specs::Lines::counts_after))]
 fn total_line(toggled: u32, written: u32) -> ArrayString<69>
     ensures { result.bytes ≡ total_line toggled written }
 {
@@ -86,6 +92,7 @@ fn push_lines<const N: usize>(out: &mut ArrayString<N>, words: &[u32], report: &
 }
 
 // The line of a refused list.
+#[tactic(auto, unfolding(crate::specs::Lines::refused_line))]
 pub fn refused_line(number: u32, place: usize) -> ArrayString<53>
     ensures { result.bytes ≡ refused_line number place }
 {

@@ -7,11 +7,14 @@ use mathlib.Core.Logic.{◌≢◌}
 use mathlib.Core.Bool.{cond}
 use mathlib.Core.List.{List, [], ◌∷◌, ◌++◌}
 use lib.Dec.{ltb}
-use lib.ListN.{length, get_or, length-append, get_or-append}
+use lib.ListN.{length, get_or, set, drop, length-append, get_or-append}
+use lib.Seq.{append_snoc}
 use borrow.Author.Tests.{lt-ltb, le-ltb}
 use Rattle.std.specs.Fmt as std
-use Rattle.std.proofs.Math.Nat.{div-one, div-div-eq-div-mul, one-le-pow, pow-le-pow_right}
+use Rattle.std.specs.Str.{IsAscii}
 use Rattle.std.proofs.lemmas.Fmt.{AppendsLastDigit, decimal_from_appends, length-decimal-le_succ}
+use Rattle.std.proofs.lemmas.Str.{IsAscii-append}
+use Rattle.std.proofs.lemmas.Str.Ascii.{IsAscii-nil}
 use Rattle.laws.proofs.Tests.{by_lt}
 use Rattle.pieces.specs.Pieces.{glyph_of, digits, decimal_up_to, decimal, hex8}
 
@@ -61,6 +64,37 @@ value-digits b (suc k) n l h f =
     let high = value-digits b k (n / b) l h (one_less b k n some f) in
     let low = digit_of_glyph (n % b) (omega (arith, mod-lt n some)) in
     rw (read_last b 0 (glyph_of (n % b)) (digits b k (n / b)), high, low) (div-add-mod' n b)
+
+-- one of them is put in its place, behind those that are left
+put_first : (j c : ℕ) (out : List ℕ) → j < length out → drop j (set out j c) ≡ c ∷ drop (suc j) out
+put_first j c [] h = absurd (omega arith)
+put_first zero c (x ∷ out) h = refl
+put_first (suc j) c (x ∷ out) h = put_first j c out (omega arith)
+
+pub one_placed : (b p n c : ℕ) (out : List ℕ) → 0 < p → p ≤ length out → c ≡ glyph_of (n % b)
+    → digits b (p - 1) (n / b) ++ drop (p - 1) (set out (p - 1) c) ≡ digits b p n ++ drop p out
+unfolding digits
+one_placed b zero n c out some inside e = absurd (omega arith)
+one_placed b (suc j) n c out some inside e =
+    let less : suc j - 1 ≡ j = omega arith in
+    rw less
+    (ap (λ (s : List ℕ). digits b j (n / b) ++ s) (put_first j c out (omega arith) ∙ ap (λ (x : ℕ). x ∷ drop (suc j) out) e)
+    ∙ sym (append_snoc (digits b j (n / b)) (glyph_of (n % b)) (drop (suc j) out)))
+
+-- they are text
+ascii_glyph : (d : ℕ) → d < 16 → glyph_of d < 128
+ascii_glyph d h = by_lt d 10 (λ (l : d < 10). rw (lt-ltb d 10 l) (omega arith)) (λ (l : 10 ≤ d). rw (le-ltb d 10 l) (omega arith))
+
+small_one : {c : ℕ} → c < 128 → IsAscii (c ∷ [])
+small_one h zero = h
+small_one h (suc i) = omega arith
+
+pub ascii-digits : (b k n : ℕ) → 0 < b → b ≤ 16 → IsAscii (digits b k n)
+unfolding digits
+ascii-digits b zero n some few = IsAscii-nil
+ascii-digits b (suc k) n some few =
+    IsAscii-append (digits b k (n / b)) (glyph_of (n % b) ∷ []) (ascii-digits b k (n / b) some few)
+    (small_one (ascii_glyph (n % b) (omega (arith, mod-lt n some))))
 
 -- ---- decimal digits
 
@@ -141,23 +175,3 @@ length-hex8 w = length_digits 16 8 w
 pub value-hex8 : (w : ℕ) → w < 2 ^ 32 → value_of 16 (hex8 w) ≡ w
 unfolding hex8
 value-hex8 w h = value-digits 16 8 w (omega arith) (omega arith) h
-
--- the digits above a place, one place lower
-pub one_lower : (w p : ℕ) → 0 < p → p ≤ 8
-    → digits 16 (8 - p) (w / 16 ^ p) ++ glyph_of (w / 16 ^ (p - 1) % 16) ∷ [] ≡ digits 16 (8 - (p - 1)) (w / 16 ^ (p - 1))
-unfolding digits
-one_lower w zero some few = absurd (omega arith)
-one_lower w (suc p) some few =
-    let less : suc p - 1 ≡ p = omega arith in
-    let more : 8 - p ≡ suc (8 - suc p) = omega arith in
-    let above : w / 16 ^ suc p ≡ w / 16 ^ p / 16 = ap (λ (k : ℕ). w / k) (pow-suc 16 p) ∙ sym (div-div-eq-div-mul w (16 ^ p) 16) in
-    rw (less, more, above)
-
-pub small_power : (p : ℕ) → p < 8 → (16 ^ p < 2 ^ 32) × (0 < 16 ^ p)
-small_power p h =
-    (omega (arith, pow-le-pow_right {n = 16} (omega arith) {i = p} {j = 7} (omega arith)), omega (arith, one-le-pow p 16 (omega arith)))
-
--- above the lowest place stand all eight
-pub all_eight : (w : ℕ) → digits 16 8 (w / 16 ^ 0) ≡ hex8 w
-unfolding hex8
-all_eight w = rw (pow-zero 16, div-one w)

@@ -93,7 +93,8 @@ fn answer_to(line: &[u8]) -> ArrayVec<u8, ROOM>
 // How many bytes of a line are kept.
 const KEPT: usize = 64;
 
-// More than the longest text has: of a longer line these bytes decide the answer (`enough_kept`).
+// More than the longest text has: of a longer line these bytes decide the answer.
+// Kept: no contract can name a constant alone, so that `longest_text` is below KEPT is said of what this hands out (`enough_kept`).
 fn no_line() -> ArrayVec<u8, KEPT>
     ensures { (result.items ≡ []) × (longest_text < KEPT) }
 {

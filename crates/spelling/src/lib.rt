@@ -148,6 +148,7 @@ static ROWS: [Row; 18] = [
     },
 ];
 
+// Kept: a row goes by its number, since the definitions of the rows do (`syntax_at`, `fields_by`, `SpellsBy`).
 #[tactic(auto, unfolding(crate::specs::Rows::syntax_at))]
 fn row_at(k: usize) -> Row
     requires { k < 18 }
@@ -197,6 +198,7 @@ fn last_offset(family: Family, offset: u32) -> u32
 }
 
 // The values of the letters, A to Z.
+// Kept: `Figures f` is asked for: it is what decode says of fields, and `Fields` is a public struct that holds any numbers.
 #[tactic(auto, unfolding(crate::specs::Spell::letter_values))]
 fn values_of(f: Fields) -> [u32; 26]
     requires { Figures f }
@@ -257,6 +259,7 @@ pub fn print(settings: Settings, word: u32, room: &mut [u8]) -> Result<usize, Re
 // ---- the fields of a text
 
 // How many registers a group has from the first to the last; no group has more than four.
+// Kept: 0 for a group that there is not, since 0 is the definition's (`group_of`).
 fn group_of(first: u32, last: u32) -> u32
     ensures { result ≡ group_of first last }
 {
@@ -265,6 +268,7 @@ fn group_of(first: u32, last: u32) -> u32
 }
 
 // The value of a letter.
+// Kept: `values: &[u32; 26]`, by letter, as the definitions take them.
 fn value(values: &[u32; 26], letter: u8) -> u32
     requires { (65 ≤ letter) × (letter ≤ 90) }
     ensures { result ≡ value_in values.now letter }
@@ -321,7 +325,7 @@ fn word_by(text: &[u8], k: usize) -> Option<u32>
     requires { k < 18 }
     ensures { TheWord (SpellsBy k text.now) result }
 {
-    let values = syntax::scan(text, row_at(k).text)?;
+    let values = syntax::scan(text, row_at(k).text, [0; 26])?;
     compared(text, k, fields_of(k, &values))
 }
 
@@ -329,6 +333,7 @@ fn word_by(text: &[u8], k: usize) -> Option<u32>
 pub fn word_of(text: &[u8]) -> Option<u32>
     ensures { TheWord (Spells text.now) result }
 {
+    // Kept: a `for`: of `find_map` the goal `TheWord (Spells text.now) c.find_map.result` stayed open: of a range the kit has a law for `find` only.
     for k in 0..ROWS.len() {
         if let Some(word) = word_by(text, k) {
             return Some(word);

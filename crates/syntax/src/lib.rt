@@ -1,7 +1,7 @@
 // A row of a syntax, written with values and read for them. What a row says is in specs/.
 #![tactic(auto)]
 
-ghost use Rattle.std.specs.Prelude.{◌≡◌, true, cond, ◌+◌, ◌*◌, ◌≤◌, ◌<◌, ◌++◌, length, get_or, replicate, Some, None};
+ghost use Rattle.std.specs.Prelude.{◌≡◌, true, cond, ◌+◌, ◌*◌, ◌≤◌, ◌<◌, ◌++◌, length, get_or, Some, None};
 ghost use Rattle.std.specs.Char.{is_ascii_uppercase};
 ghost use Rattle.arrayvec.specs.ArrayVec.{array_vec_len};
 ghost use Rattle.syntax.specs.Syntax.{is_number, value_in, fill, TwoDigits, OneByte};
@@ -84,12 +84,11 @@ fn first(c: u8, a: u8, b: u8) -> (u32, usize)
     (digit * 10 + u32::from(b - b'0'), 2)
 }
 
-// The values of the row's letters in a text that fits the row. A letter that the row lacks has 0.
-pub fn scan(text: &[u8], row: &[u8]) -> Option<[u32; 26]>
-    ensures { result ≡ cond (fits row.now text.now) (Some (taken row.now text.now (replicate 26 0))) None }
+// The values, with those of the row's letters in a text that fits the row.
+pub fn scan(text: &[u8], row: &[u8], mut values: [u32; 26]) -> Option<[u32; 26]>
+    ensures { result ≡ cond (fits row.now text.now) (Some (taken row.now text.now values)) None }
 {
-    let mut values = [0; 26];
-    // Kept: a place, and not what is left of the text, since a letter may pass bytes that a text lacks.
+    // Kept: a place: `rest = rest.get(passed..).unwrap_or_default()`, as a letter may pass bytes that a text lacks, would be no plainer than `at += passed`.
     let mut at = 0;
     for c in row {
         let a = byte_at(text, at);

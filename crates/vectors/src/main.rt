@@ -31,12 +31,13 @@ struct Case<'a> {
 }
 
 // The byte at a place of the line, and 0 past its end, so that no reader has to know the line's length.
+// Kept: `syntax` has the same line for itself, and a crate between them for one line would be no plainer.
 fn byte_at(line: &[u8], at: usize) -> u8 {
     line.get(at).copied().unwrap_or(0)
 }
 
 // The value of a digit: `0` to `9` are the bytes 48 to 57, and `A` to `F` 65 to 70.
-// Kept: `to_digit` answers nothing for other bytes, and a line of any bytes is judged as it was.
+// Kept: `to_digit` answers nothing for other bytes, and a program does on every input what it did: a line of any bytes is judged as it was.
 fn digit(byte: u8) -> u32
     ensures { result < 16 }
 {
@@ -108,40 +109,40 @@ fn case_of(line: &[u8]) -> Option<Case<'_>> {
 
 // ---- settings
 
-fn settings_with(vl: u32, features: u32) -> Settings {
-    Settings {
-        vl,
-        features: Features(features),
-        modes: Modes(0),
-        select: [0; 4],
-    }
-}
+const ALL_FEATURES: Settings = Settings {
+    vl: 128,
+    features: Features(31),
+    modes: Modes(0),
+    select: [0; 4],
+};
 
-fn all_features() -> Settings {
-    settings_with(128, 31)
-}
-
-fn no_features() -> Settings {
-    settings_with(128, 0)
-}
+const NO_FEATURES: Settings = Settings {
+    features: Features(0),
+    ..ALL_FEATURES
+};
 
 // A vector length outside the rules is refused with 1, whatever else is asked.
-fn bad_length() -> Settings {
-    settings_with(129, 31)
-}
+const BAD_LENGTH: Settings = Settings {
+    vl: 129,
+    ..ALL_FEATURES
+};
 
 // ---- decode
 
 // With every feature a word of the five families is described, and any other word refused with 3.
 fn is_decoded(case: Case<'_>) -> bool {
-    (words::decode(all_features(), case.word) == case.fields.ok_or(Refusal::UnknownWord))
-        & (words::decode(bad_length(), case.word) == Err(Refusal::BadSettings))
+    (words::decode(ALL_FEATURES, case.word) == case.fields.ok_or(Refusal::UnknownWord))
+        & (words::decode(BAD_LENGTH, case.word) == Err(Refusal::BadSettings))
 }
 
 // Whether decode does under one feature set what LLVM's letter says. At a dot LLVM could not be asked, and decode
 // may do either, but answers nothing else.
 fn is_taken(case: Case<'_>, features: u32, letter: u8) -> bool {
-    let answer = words::decode(settings_with(128, features), case.word);
+    let settings = Settings {
+        features: Features(features),
+        ..ALL_FEATURES
+    };
+    let answer = words::decode(settings, case.word);
     let refused = answer == Err(Refusal::UnknownWord);
     let described = answer.is_ok() & (answer == case.fields.ok_or(Refusal::UnknownWord));
     match letter {
@@ -162,7 +163,7 @@ fn is_taken_by_sets(case: Case<'_>) -> bool {
 // ---- encode
 
 fn no_word_has(fields: Fields) -> bool {
-    encoding::encode(all_features(), fields) == Err(Refusal::NoSuchWord)
+    encoding::encode(ALL_FEATURES, fields) == Err(Refusal::NoSuchWord)
 }
 
 // Whether encode refuses the fields with 5, as it must where one of them has a value that no family knows.
@@ -198,9 +199,9 @@ fn refuses_spoiled(fields: Fields) -> bool {
 
 // Whether the fields encode to the word, with the refusals that other settings owe: 3 without a feature, and 1.
 fn encodes_to(fields: Fields, word: u32) -> bool {
-    (encoding::encode(all_features(), fields) == Ok(word))
-        & (encoding::encode(no_features(), fields) == Err(Refusal::UnknownWord))
-        & (encoding::encode(bad_length(), fields) == Err(Refusal::BadSettings))
+    (encoding::encode(ALL_FEATURES, fields) == Ok(word))
+        & (encoding::encode(NO_FEATURES, fields) == Err(Refusal::UnknownWord))
+        & (encoding::encode(BAD_LENGTH, fields) == Err(Refusal::BadSettings))
         & refuses_spoiled(fields)
 }
 
@@ -220,10 +221,10 @@ fn has_partner(word: u32, fields: Fields) -> bool {
         subtract: !fields.subtract,
         ..fields
     };
-    match words::partner(all_features(), word) {
+    match words::partner(ALL_FEATURES, word) {
         Ok(other) => {
-            (words::decode(all_features(), other) == Ok(flipped))
-                & (words::partner(all_features(), other) == Ok(word))
+            (words::decode(ALL_FEATURES, other) == Ok(flipped))
+                & (words::partner(ALL_FEATURES, other) == Ok(word))
         }
         Err(_) => false,
     }
@@ -232,10 +233,10 @@ fn has_partner(word: u32, fields: Fields) -> bool {
 // C has no partner, nor has a word that is of none of the five families.
 fn is_partnered(case: Case<'_>) -> bool {
     match case.fields {
-        None => words::partner(all_features(), case.word) == Err(Refusal::UnknownWord),
+        None => words::partner(ALL_FEATURES, case.word) == Err(Refusal::UnknownWord),
         Some(fields) => {
             if fields.family == Family::Saturating {
-                return words::partner(all_features(), case.word) == Err(Refusal::NoPartner);
+                return words::partner(ALL_FEATURES, case.word) == Err(Refusal::NoPartner);
             }
             has_partner(case.word, fields)
         }
@@ -243,10 +244,6 @@ fn is_partnered(case: Case<'_>) -> bool {
 }
 
 // ---- print and read
-
-fn untouched_room() -> [u8; ROOM] {
-    [UNTOUCHED; ROOM]
-}
 
 // Whether the room has the text, and past it what it had before.
 fn has_text(room: &[u8], text: &[u8]) -> bool {
@@ -258,7 +255,7 @@ fn has_text(room: &[u8], text: &[u8]) -> bool {
 
 // Whether print answers so in an untouched room, and leaves this text in it.
 fn prints(settings: Settings, word: u32, answer: Result<usize, Refusal>, text: &[u8]) -> bool {
-    let mut room = untouched_room();
+    let mut room = [UNTOUCHED; ROOM];
     (spelling::print(settings, word, &mut room) == answer) & has_text(&room, text)
 }
 
@@ -267,24 +264,24 @@ fn print_refuses(settings: Settings, word: u32, refusal: Refusal) -> bool {
 }
 
 fn is_printed(word: u32, text: &[u8]) -> bool {
-    prints(all_features(), word, Ok(text.len()), text)
-        & print_refuses(no_features(), word, Refusal::UnknownWord)
-        & print_refuses(bad_length(), word, Refusal::BadSettings)
+    prints(ALL_FEATURES, word, Ok(text.len()), text)
+        & print_refuses(NO_FEATURES, word, Refusal::UnknownWord)
+        & print_refuses(BAD_LENGTH, word, Refusal::BadSettings)
 }
 
 fn is_read(text: &[u8], word: u32) -> bool {
-    (spelling::read(all_features(), text) == Ok(word))
-        & (spelling::read(no_features(), text) == Err(Refusal::UnknownWord))
-        & (spelling::read(bad_length(), text) == Err(Refusal::BadSettings))
+    (spelling::read(ALL_FEATURES, text) == Ok(word))
+        & (spelling::read(NO_FEATURES, text) == Err(Refusal::UnknownWord))
+        & (spelling::read(BAD_LENGTH, text) == Err(Refusal::BadSettings))
 }
 
 // Whether print refuses the word, which is none of the five, and read the text that stands there, whatever it is.
 fn has_no_text(word: u32, text: &[u8]) -> bool {
-    print_refuses(all_features(), word, Refusal::UnknownWord)
-        & print_refuses(bad_length(), word, Refusal::BadSettings)
-        & (spelling::read(all_features(), text) == Err(Refusal::NotText))
-        & (spelling::read(no_features(), text) == Err(Refusal::NotText))
-        & (spelling::read(bad_length(), text) == Err(Refusal::BadSettings))
+    print_refuses(ALL_FEATURES, word, Refusal::UnknownWord)
+        & print_refuses(BAD_LENGTH, word, Refusal::BadSettings)
+        & (spelling::read(ALL_FEATURES, text) == Err(Refusal::NotText))
+        & (spelling::read(NO_FEATURES, text) == Err(Refusal::NotText))
+        & (spelling::read(BAD_LENGTH, text) == Err(Refusal::BadSettings))
 }
 
 fn is_spelled(case: Case<'_>) -> bool {
@@ -310,7 +307,7 @@ fn is_right(line: &[u8]) -> bool {
 }
 
 fn is_described(line: &[u8]) -> bool {
-    words::decode(all_features(), word_of(line)).is_ok()
+    words::decode(ALL_FEATURES, word_of(line)).is_ok()
 }
 
 // Names the word by the line's own digits.

@@ -1,0 +1,10 @@
+-- `pieces::last_digits` meets its contract. The invariant: the digits that are left, of the rest, and behind them those that stand in their place. Assumes
+-- nothing.
+use mathlib.Core.Path.{◌≡◌}
+use mathlib.Core.List.{◌++◌}
+use lib.ListN.{length, drop}
+use Rattle.pieces.specs.Pieces.{digits}
+use Rattle.pieces.proofs.last_digits.Given as goal
+
+abbrev pub invariant-loop-place : goal.invariant-loop-place
+invariant-loop-place g l = (length l.digits ≡ g.row.N) × (digits l.base l.place l.rest ++ drop l.place l.digits ≡ digits l.base g.row.N l.n)
