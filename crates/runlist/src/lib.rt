@@ -49,15 +49,16 @@ pub struct Front {
 }
 
 // The settings of the seven numbers in front.
-pub fn settings_of(head: &[u32]) -> Settings
-    requires { length head.now ≡ 7 }
+#[tactic(auto, unfolding(crate::specs::Plan::settings_of))]
+pub fn settings_of(head: &[u32; HEAD]) -> Settings
     ensures { result ≡ settings_of head.now }
 {
+    let [vl, features, modes, w8, w9, w10, w11] = *head;
     Settings {
-        vl: head[0],
-        features: Features(head[1]),
-        modes: Modes(head[2]),
-        select: [head[3], head[4], head[5], head[6]],
+        vl,
+        features: Features(features),
+        modes: Modes(modes),
+        select: [w8, w9, w10, w11],
     }
 }
 
