@@ -8,6 +8,10 @@ use lib.ListN.{length, get_or, take, drop}
 use lib.Seq.{get_or-take, get_or-drop}
 use Rattle.std.proofs.Common.{drop-drop}
 use Rattle.std.specs.Simd.{first_chunks}
+use Rattle.std.specs.List.{zip, enumerate_from}
+use Rattle.std.proofs.lemmas.List.{get_or_default}
+use Rattle.std.proofs.lemmas.List.FromFn.{length-enumerate_from, get_or-enumerate_from}
+use Rattle.std.proofs.lemmas.Slice.Zip.{length-zip, get_or-zip}
 use Rattle.lines.specs.Lines.{word_line, toggled_at, line_of, word_lines}
 
 chunk_at : (k i : ℕ) (xs : List ℕ) → i < k → get_or (first_chunks 4 k xs) i [] ≡ take 4 (drop (4 * i) xs)
@@ -44,3 +48,19 @@ module _ (report : List ℕ) (fours : List (List ℕ)) (e : fours ≡ first_chun
 pub no_lines : (words report before : List ℕ) → before ≡ before ++ word_lines words report 0
 unfolding word_lines
 no_lines words report before = sym (append-nil before)
+
+-- a turn of a loop over the words, each beside its four numbers
+pub numbered : (words : List ℕ) (fours : List (List ℕ)) (k i w : ℕ) (f : List ℕ)
+    → (k < length (enumerate_from 0 (zip words fours))) × (◌≡◌ {A = ℕ × (ℕ × List ℕ)} (i, (w, f)) (get_or (enumerate_from 0 (zip words fours)) k (i, (w, f))))
+    → (i ≡ k) × (w ≡ get_or words k 0) × (f ≡ get_or fours k []) × (k < length words)
+numbered words fours k i w f t =
+    let inside : k < length (zip words fours) = omega (arith, t.0, length-enumerate_from 0 (zip words fours)) in
+    let a : k < length words = omega (arith, inside, length-zip words fours) in
+    let b : k < length fours = omega (arith, inside, length-zip words fours) in
+    let e = t.1 ∙ get_or-enumerate_from 0 (zip words fours) k (i, (w, f)) inside in
+    let pair = ap (λ (p : ℕ × (ℕ × List ℕ)). p.1) e ∙ get_or-zip words fours k (w, f) a b in (
+      omega (arith, ap (λ (p : ℕ × (ℕ × List ℕ)). p.0) e),
+      ap (λ (p : ℕ × List ℕ). p.0) pair ∙ get_or_default words k w 0 a,
+      ap (λ (p : ℕ × List ℕ). p.1) pair ∙ get_or_default fours k f [] b,
+      a,
+    )

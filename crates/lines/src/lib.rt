@@ -85,8 +85,8 @@ fn push_lines<const N: usize>(out: &mut ArrayString<N>, words: &[u32], report: &
     ensures upper_bound { array_string_len out.new ≤ array_string_len out.old + 93 * length words.now }
 {
     let (fours, _) = report.as_chunks::<4>();
-    for (i, word) in words.iter().enumerate() {
-        let [refusal, rises, falls, written] = fours[i];
+    for (i, (word, numbers)) in words.iter().zip(fours).enumerate() {
+        let [refusal, rises, falls, written] = *numbers;
         out.push_str(&word_line(i + 1, *word, refusal, rises + falls, written));
     }
 }
