@@ -74,7 +74,7 @@ pub fn replace(file: &mut [u8], at: usize, new: &[u8]) -> Toggles
     ensures { Replaced at result new.now file.old file.new }
 {
     let mut toggles = Toggles::default();
-    // Kept: by the word's number, here and in `clear`: the file's word stands `at` bytes further than the new one, and both are read by their place.
+    // By the word's number: the file's word stands `at` bytes further than the new one, and each is read by its place.
     for word in 0..new.len() / 8 {
         let after = elements::read::<64>(new, 8 * word);
         toggles += write(file, at + 8 * word, after);

@@ -55,7 +55,7 @@ fn step_chunk<const LANE: usize, const WIDE: usize>(
 }
 
 // The eight elements of 16 bits from `at` on after a step, aside: nothing is read after it is written, and the compiler may do all eight at once.
-// Kept: z, at, x, y and by go from function to function as `even_bytes` names them in each clause; `Source` holds the two that are one thing.
+// Kept: z, at, x, y and by are the arguments of `even_bytes` in each clause; a struct of them would be taken apart in each, and be no plainer.
 fn eight(operation: Operation, z: &[u8], at: usize, x: usize, y: usize, by: usize, new: &mut [u8])
     requires len { length new.old ≡ 16 }
     requires at_in_bounds { (at + 16 ≤ length z.now) × ((x + 8 ≤ length z.now) × (y + 7 * by + 1 ≤ length z.now)) }

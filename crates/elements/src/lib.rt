@@ -28,7 +28,7 @@ pub fn read<const BITS: usize>(s: &[u8], at: usize) -> u64
 }
 
 // The element there becomes the low bits of the number: one store, likewise.
-// Kept: by place, as `put_at` says it; `copy_from_slice` of `to_le_bytes` would be cut to the bytes of BITS first, and is no plainer.
+// By place: with `copy_from_slice` of `to_le_bytes()[..BITS / 8]` the goal `put_mid .. ≡ put_at (BITS / 8) at number s` stayed open.
 pub fn put<const BITS: usize>(s: &mut [u8], at: usize, number: u64)
     requires { (BITS ≤ 64) × (at + BITS / 8 ≤ length s.old) }
     ensures { s.new ≡ put_at (BITS / 8) at number s.old }

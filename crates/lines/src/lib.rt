@@ -25,7 +25,7 @@ fn counts(toggled: u32, written: u32) -> ArrayString<63>
 }
 
 // What became of a word, to the line's end.
-// Kept: `refusal == 0`: the refusal is a number of the report, whose numbers are the C interface.
+// Kept: `refusal == 0`, and toggled beside written: they are numbers of the report, which is the C interface, and of what a line says.
 #[tactic(auto, unfolding(crate::specs::Lines::outcome, crate::specs::Lines::counts_after))]
 fn outcome(refusal: u32, toggled: u32, written: u32) -> ArrayString<64>
     ensures { result.bytes ≡ outcome refusal toggled written }

@@ -172,7 +172,7 @@ pub fn right_lengths(settings: Settings, z: usize, za: usize) -> bool
     (z == 32 * register) & (za == vector * vector)
 }
 
-// Kept: no method, since `Fields` is another crate's type; and an arm for each family, since the edits `written_128` and `written_of_d_for_e` turn one each.
+// Kept: of settings and fields alone, as `written` says it; an arm for each family, since the edits `written_128` and `written_of_d_for_e` turn one each.
 fn written_bits(settings: Settings, fields: Fields) -> u32
     requires { (settings.vl ≤ 2048) × (fields.group ≤ 32) }
     ensures { result ≡ written settings fields }

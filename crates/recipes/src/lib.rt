@@ -11,7 +11,7 @@ use lanes::Operation;
 use words::Fields;
 
 // Element e of the register at byte `at` after a step, of the sources at bytes n and m.
-// Kept: fields, z, at, n and m go from function to function as the definitions of recipes name them in each clause.
+// Kept: z, at, n and m are the arguments of `new_element` and `new_bytes` in each clause; a struct would be taken apart in each, and be no plainer.
 fn new_element<const LANE: usize, const WIDE: usize>(
     fields: Fields,
     z: &[u8],

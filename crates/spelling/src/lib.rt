@@ -268,7 +268,7 @@ fn group_of(first: u32, last: u32) -> u32
 }
 
 // The value of a letter.
-// Kept: `values: &[u32; 26]`, by letter, as the definitions take them.
+// Kept: 26 numbers by letter: the definitions `value_in`, `fill` and `taken` are over such a list, and may not change.
 fn value(values: &[u32; 26], letter: u8) -> u32
     requires { (65 ≤ letter) × (letter ≤ 90) }
     ensures { result ≡ value_in values.now letter }
@@ -333,7 +333,7 @@ fn word_by(text: &[u8], k: usize) -> Option<u32>
 pub fn word_of(text: &[u8]) -> Option<u32>
     ensures { TheWord (Spells text.now) result }
 {
-    // Kept: a `for`: of `find_map` the goal `TheWord (Spells text.now) c.find_map.result` stayed open: of a range the kit has a law for `find` only.
+    // A `for`: of `find_map` the goal `TheWord (Spells text.now) c.find_map.result` stayed open: of a range the kit has a law for `find` only.
     for k in 0..ROWS.len() {
         if let Some(word) = word_by(text, k) {
             return Some(word);

@@ -88,7 +88,7 @@ fn first(c: u8, a: u8, b: u8) -> (u32, usize)
 pub fn scan(text: &[u8], row: &[u8], mut values: [u32; 26]) -> Option<[u32; 26]>
     ensures { result ≡ cond (fits row.now text.now) (Some (taken row.now text.now values)) None }
 {
-    // Kept: a place: `rest = rest.get(passed..).unwrap_or_default()`, as a letter may pass bytes that a text lacks, would be no plainer than `at += passed`.
+    // A place: `rest = rest.get(passed..).unwrap_or_default()`, as a letter may pass bytes that a text lacks, would be no plainer than `at += passed`.
     let mut at = 0;
     for c in row {
         let a = byte_at(text, at);

@@ -31,7 +31,7 @@ struct Case<'a> {
 }
 
 // The byte at a place of the line, and 0 past its end, so that no reader has to know the line's length.
-// Kept: `syntax` has the same line for itself, and a crate between them for one line would be no plainer.
+// Kept: `syntax` has this line, private to it; public, it would be a promise with an edit of its own, for one line.
 fn byte_at(line: &[u8], at: usize) -> u8 {
     line.get(at).copied().unwrap_or(0)
 }
