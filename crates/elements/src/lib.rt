@@ -1,7 +1,7 @@
 #![tactic(auto)]
 
 ghost use Rattle.std.specs.Prelude.{◌≡◌, ◌+◌, ◌/◌, ◌%◌, ◌^◌, ◌<◌, ◌≤◌, length, take, drop};
-ghost use Rattle.elements.specs.Lanes.{IsWidth};
+ghost use Rattle.elements.specs.Lanes.{IsLane, IsWidth};
 ghost use Rattle.elements.specs.Elements.{element_at, put_at};
 
 // So many bytes of s as an array.
@@ -24,6 +24,20 @@ pub fn read<const BITS: usize>(s: &[u8], at: usize) -> u64
         16 => u64::from(u16::from_le_bytes(bytes(s, at))),
         32 => u64::from(u32::from_le_bytes(bytes(s, at))),
         _ => u64::from_le_bytes(bytes(s, at)),
+    }
+}
+
+// The lane of 8, 16 or 32 bits at a place, for a caller that has its size as a number and not as a constant.
+// Kept: a `match` that calls `read` at each size, since a const parameter takes no number that is known at run time only.
+pub fn lane_at(s: &[u8], at: usize, lane: usize) -> u64
+    requires lane { IsLane lane }
+    requires lane_in_bounds { at + lane / 8 ≤ length s.now }
+    ensures { (result ≡ element_at (lane / 8) at s.now) × (result < 2 ^ lane) }
+{
+    match lane {
+        8 => read::<8>(s, at),
+        16 => read::<16>(s, at),
+        _ => read::<32>(s, at),
     }
 }
 
