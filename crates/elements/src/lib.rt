@@ -43,11 +43,14 @@ pub fn lane_at(s: &[u8], at: usize, lane: usize) -> u64
 
 // The element there becomes the low bits of the number: one store, likewise.
 // By place: with `copy_from_slice` of `to_le_bytes()[..BITS / 8]` the goal `put_mid .. ≡ put_at (BITS / 8) at number s` stayed open.
+// What is left of the number is divided in each turn, since the code has no shifts.
 pub fn put<const BITS: usize>(s: &mut [u8], at: usize, number: u64)
     requires { (BITS ≤ 64) × (at + BITS / 8 ≤ length s.old) }
     ensures { s.new ≡ put_at (BITS / 8) at number s.old }
 {
+    let mut rest = number;
     for i in 0..BITS / 8 {
-        s[at + i] = ((number >> (8 * i)) % 256) as u8;
+        s[at + i] = (rest % 256) as u8;
+        rest /= 256;
     }
 }

@@ -13,12 +13,16 @@ pub struct Operation {
     pub subtract: bool,
 }
 
-// x modulo 2 to so many bits.
+// x modulo 2 to so many bits. 2 to 64 is no u64.
 fn low_bits<const BITS: usize>(x: u64) -> u64
     requires { BITS ≤ 64 }
     ensures { result ≡ x % 2 ^ BITS }
 {
-    if BITS == 64 { x } else { x % (1 << BITS) }
+    if BITS == 64 {
+        x
+    } else {
+        x % 2_u64.pow(BITS as u32)
+    }
 }
 
 // The integer of an element, signed.
