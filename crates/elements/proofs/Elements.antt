@@ -122,6 +122,10 @@ element_at_digits (suc k) at v s h =
 
 -- ---- a write
 
+-- what is left of v after one byte more
+pub rest_turn : (v i : ℕ) → v / 2 ^ (8 * i) / 256 ≡ v / 2 ^ (8 * (i + 1))
+rest_turn v i = rw (← pow256 i, ← pow256 (i + 1), add-one, pow-suc, div-div-eq-div-mul)
+
 -- j + k bytes are written as j bytes and then k bytes
 pub put_add : (j k at v : ℕ) (s : List ℕ) → put_at (j + k) at v s ≡ put_at k (at + j) (v / 256 ^ j) (put_at j at v s)
 unfolding put_at

@@ -1,5 +1,6 @@
 -- What a step and its parts are, over any width, by signs and magnitudes and by factors that are raised until none is negative. The code goes to 64 bits
--- first, by the lemmas of Wrapping and Saturation. Assumes nothing.
+-- first: the laws of Wrapping and Saturation by which it meets its contracts go by `added`, `subtracted`, `lane_is`, `clamp_value` and `sat_is`. It raises
+-- no factor: of `product_is` they take the case of unsigned lanes, which are raised by nothing; signed ones are multiplied as integers. Assumes nothing.
 use Rattle.std.proofs.Common.{◌≡◌, ℕ, zero, suc, ◌+◌, ◌-◌, ◌*◌, ◌%◌, ◌^◌, ◌<◌, ◌≤◌, min, Bool, true, false, not, ℤ, pos, negsuc, ◌+ℤ◌, ◌-ℤ◌, ◌*ℤ◌, neg_ℤ, sym, refl, ap, ◌∙◌, ap₂, mod-eq_of_lt, mul-zero, zero-mul, arith, pow_pos, le-ltb, lt-ltb}
 use mathlib.Core.Bool.{not-not}
 use native.Mathlib.Nat.{mod-mod, zero-min, add-mul-mod_self_right}
@@ -10,6 +11,13 @@ use Rattle.lanes.specs.Signed.{signed_value, signs, limit}
 use Rattle.lanes.specs.Widths.{raise}
 use Rattle.lanes.proofs.Integers.{minus_lt, minus_ge, low_lt, low-pos, low_sub}
 use Rattle.lanes.proofs.Widths.{two-halves}
+
+-- ---- an integer has a sign and a magnitude
+
+pub by_sign : {P : Type 0} (z : ℤ) → ((s : Bool) (m : ℕ) → signed_value s m ≡ z → P) → P
+unfolding signed_value
+by_sign (pos m) f = f false m refl
+by_sign (negsuc m) f = f true (suc m) refl
 
 -- ---- sums of two signs
 
@@ -29,7 +37,7 @@ sum_le s a b h =
 
 -- ---- a product of two signs
 
-value_times : (s t : Bool) (a b : ℕ) → signed_value s a *ℤ signed_value t b ≡ signed_value (signs s t) (a * b)
+pub value_times : (s t : Bool) (a b : ℕ) → signed_value s a *ℤ signed_value t b ≡ signed_value (signs s t) (a * b)
 unfolding signed_value
 value_times false false a b = refl
 value_times false true a zero = simp mul-zero
@@ -42,6 +50,12 @@ value_times true true (suc a) zero = simp mul-zero
 value_times true true (suc a) (suc b) = refl
 
 -- ---- adding to the accumulator
+
+-- either operation adds an integer whose sign is the operation's
+pub accumulate_signed : (n : ℕ) (subtract : Bool) (a p : ℕ) → accumulate n subtract a p ≡ low n (pos a +ℤ signed_value subtract p)
+unfolding accumulate signed_value
+accumulate_signed n false a p = refl
+accumulate_signed n true a p = refl
 
 -- what a wrapping sum and a wrapping difference of n bits ensure
 pub added : (n : ℕ) (s : Bool) (a m r : ℕ) → s ≡ false → r ≡ (a + m) % 2 ^ n → r ≡ low n (pos a +ℤ signed_value s m)
@@ -148,7 +162,7 @@ lane_is lane wide unsigned true a x y p r ep er = (rw (← ep) er, rw er (low_lt
 -- ---- the sum or difference
 
 -- a ± b, by the sign that b is added with
-add_signed : (subtract : Bool) (z : ℤ) (s : Bool) (m : ℕ) → add_sub subtract z (signed_value s m) ≡ z +ℤ signed_value (signs s subtract) m
+pub add_signed : (subtract : Bool) (z : ℤ) (s : Bool) (m : ℕ) → add_sub subtract z (signed_value s m) ≡ z +ℤ signed_value (signs s subtract) m
 unfolding signed_value
 add_signed false z false m = refl
 add_signed false z true m = refl
@@ -182,12 +196,17 @@ clamp_value (suc top) h false m = clamp-pos top m
 clamp_value (suc top) h true zero = clamp-pos top zero ∙ simp zero-min
 clamp_value (suc top) h true (suc m) = clamp_neg top m
 
+-- no further than top
+pub limit_le : (top : ℕ) (s : Bool) (m : ℕ) → min m (limit top s) ≤ top
+limit_le top false m = omega arith
+limit_le top true m = omega arith
+
 -- ---- the whole step that saturates
 
 twice : (m : ℕ) → m + m ≡ 2 * m
 twice m = omega arith
 
-double : (s : Bool) (m : ℕ) → signed_value s (m + m) ≡ pos 2 *ℤ signed_value s m
+pub double : (s : Bool) (m : ℕ) → signed_value s (m + m) ≡ pos 2 *ℤ signed_value s m
 unfolding signed_value
 double false m = ap (signed_value false) (twice m)
 double true m = ap (signed_value true) (twice m) ∙ sym (value_times false true 2 m)

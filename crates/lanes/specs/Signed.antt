@@ -1,4 +1,5 @@
--- An integer by its sign and magnitude. Only proofs/AnyWidth.antt uses this, and no promise of `lane_step` or `sat_step` names it.
+-- An integer by its sign and magnitude: what proofs/AnyWidth.antt says of a step, and Wrapping and Saturation beside it, by which the code meets its
+-- contracts. No promise of `lane_step` or `sat_step` names it.
 use Rattle.std.specs.Prelude.{ℕ, ◌-◌, Bool, true, false, cond, not, ℤ, pos, neg_ℤ}
 use Rattle.std.specs.Bool.{beq}
 

@@ -13,12 +13,16 @@ pub struct Operation {
     pub subtract: bool,
 }
 
-// x modulo 2 to so many bits.
+// x modulo 2 to so many bits. 2 to 64 is no u64.
 fn low_bits<const BITS: usize>(x: u64) -> u64
     requires { BITS ≤ 64 }
     ensures { result ≡ x % 2 ^ BITS }
 {
-    if BITS == 64 { x } else { x % (1 << BITS) }
+    if BITS == 64 {
+        x
+    } else {
+        x % 2_u64.pow(BITS as u32)
+    }
 }
 
 // The integer of an element, signed.
@@ -85,6 +89,24 @@ pub fn lane_step<const LANE: usize, const WIDE: usize>(
     accumulate::<WIDE>(operation.subtract, acc, product)
 }
 
+// The same, for a caller that has the widths as numbers and not as constants.
+// Kept: a `match` that calls `lane_step` at each pair of widths, since a const parameter takes no number that is known at run time only.
+pub fn lane_step_by(lane: usize, wide: usize, operation: Operation, acc: u64, x: u64, y: u64) -> u64
+    requires widths { Widths lane wide }
+    requires x_bound { (x < 2 ^ lane) × (y < 2 ^ lane) }
+    requires acc_bound { acc < 2 ^ wide }
+    ensures { (result ≡ lane_step lane wide operation.unsigned operation.subtract acc x y) × (result < 2 ^ wide) }
+{
+    match (lane, wide) {
+        (8, 16) => lane_step::<8, 16>(operation, acc, x, y),
+        (8, 32) => lane_step::<8, 32>(operation, acc, x, y),
+        (8, _) => lane_step::<8, 64>(operation, acc, x, y),
+        (16, 32) => lane_step::<16, 32>(operation, acc, x, y),
+        (16, _) => lane_step::<16, 64>(operation, acc, x, y),
+        (_, _) => lane_step::<32, 64>(operation, acc, x, y),
+    }
+}
+
 // An integer, clamped to those of so many bits.
 // Kept: a `match` on a constant, as in `signed`, of which the compiler keeps one arm; a trait would have an impl of one line in place of each.
 fn clamp<const BITS: usize>(z: i64) -> i64
@@ -120,6 +142,24 @@ pub fn sat_step<const LANE: usize, const WIDE: usize>(
         before.saturating_add(doubled)
     };
     low_bits::<WIDE>(clamp::<WIDE>(after).cast_unsigned())
+}
+
+// The same, for a caller that has the widths as numbers and not as constants.
+// Kept: a `match`, as in `lane_step_by`.
+pub fn sat_step_by(lane: usize, wide: usize, subtract: bool, acc: u64, x: u64, y: u64) -> u64
+    requires widths { Widths lane wide }
+    requires x_bound { (x < 2 ^ lane) × (y < 2 ^ lane) }
+    requires acc_bound { acc < 2 ^ wide }
+    ensures { (result ≡ sat_step lane wide subtract acc x y) × (result < 2 ^ wide) }
+{
+    match (lane, wide) {
+        (8, 16) => sat_step::<8, 16>(subtract, acc, x, y),
+        (8, 32) => sat_step::<8, 32>(subtract, acc, x, y),
+        (8, _) => sat_step::<8, 64>(subtract, acc, x, y),
+        (16, 32) => sat_step::<16, 32>(subtract, acc, x, y),
+        (16, _) => sat_step::<16, 64>(subtract, acc, x, y),
+        (_, _) => sat_step::<32, 64>(subtract, acc, x, y),
+    }
 }
 
 // An element of `WIDE` bits after a step, of the old one and of the lanes of `LANE` bits at bytes x and y. Of C, where it is saturating; then its lanes
