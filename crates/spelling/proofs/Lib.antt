@@ -1,5 +1,6 @@
 pub mod Arms
 pub mod Putting
+pub mod Placed
 pub mod Back
 pub mod Reading
 pub mod Theorems

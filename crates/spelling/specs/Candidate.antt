@@ -1,14 +1,32 @@
--- What only the code needs, and no promise of a public call names: the words that a row is for, and the one Fields that a text can have by a row.
-use Rattle.std.specs.Prelude.{ℕ, ◌+◌, ◌-◌, ◌||◌, cond, List, [], ◌∷◌, eqb, ltb, get_or}
+-- What no promise of a public call names: where a row stands among all, the words that it is for, and the one Fields that a text can have by a row.
+use Rattle.std.specs.Prelude.{ℕ, zero, suc, ◌+◌, ◌-◌, ◌||◌, cond, List, [], ◌∷◌, ◌++◌, eqb, ltb, length, get_or}
 use Prim.Native.String.{String}
+use Rattle.pieces.specs.Pieces.{text}
 use Rattle.syntax.specs.Syntax.{value_in}
 use Rattle.syntax.specs.Scan.{taken}
 use Rattle.words.specs.Numbers.{bit_of}
 use Rattle.words.specs.declared.Family.{Family}
 use Rattle.words.specs.declared.Family.TheVariants.{ByElement, Vector, Saturating, LongLong, Long}
 use Rattle.words.specs.declared.Fields.{Fields}
-use Rattle.spelling.specs.Rows.{syntax_at}
+use Rattle.spelling.specs.Rows.{syntaxes, syntax_at}
 use Rattle.spelling.specs.Spell.{byte_of, letters}
+
+-- the rows, one behind the other
+abbrev pub joined : List String → List ℕ
+joined [] = []
+joined (s ∷ ss) = text s ++ joined ss
+
+unfoldable pub all_rows : List ℕ
+all_rows = joined syntaxes
+
+-- where a row begins, and the one before it ends
+abbrev pub start_in : List String → ℕ → ℕ
+start_in ss zero = 0
+start_in [] (suc k) = 0
+start_in (s ∷ ss) (suc k) = length (text s) + start_in ss k
+
+unfoldable pub start_at : ℕ → ℕ
+start_at k = start_in syntaxes k
 
 -- by the row's number: the family, the lane and the part
 abbrev pub family_at : ℕ → Family
