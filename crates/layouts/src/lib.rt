@@ -14,6 +14,10 @@ pub const BIT_4: u32 = 16;
 
 pub const BIT_5: u32 = 32;
 
+pub const BIT_6: u32 = 64;
+
+pub const BIT_7: u32 = 128;
+
 pub const BIT_10: u32 = 1024;
 
 pub const BIT_11: u32 = 2048;
@@ -27,6 +31,10 @@ pub const BIT_14: u32 = 16384;
 pub const BIT_15: u32 = 32768;
 
 pub const BIT_16: u32 = 65536;
+
+pub const BIT_17: u32 = 131072;
+
+pub const BIT_18: u32 = 262144;
 
 pub const BIT_19: u32 = 524288;
 

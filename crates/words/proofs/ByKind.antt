@@ -1,19 +1,22 @@
 -- Kinds: the top byte of a word decides which rows can match, and what a word of a kind says. Assumes nothing.
-use Prim.Native.Nat.{ℕ, ◌+◌, ◌*◌, ◌/◌, ◌%◌, ◌^◌, ◌<◌}
+use Prim.Native.Nat.{ℕ, zero, suc, ◌+◌, ◌*◌, ◌/◌, ◌%◌, ◌^◌, ◌<◌}
 use native.Mathlib.Omega.{arith}
 use mathlib.Core.Path.{◌≡◌, refl}
-use mathlib.Core.Logic.{◌≢◌}
+use mathlib.Core.Logic.{◌⊎◌, ◌≢◌}
 use mathlib.Core.List.{◌++◌}
 use mathlib.Core.Bool.{true, false}
+use Rattle.laws.proofs.Tests.{one_of_three}
 use Rattle.settings.specs.Valid.{valid_settings}
 use Rattle.settings.specs.declared.Settings.{Settings}
+use Rattle.layouts.specs.Layout.{value}
 use Rattle.layouts.proofs.Apart.{other_top}
-use Rattle.words.specs.Rows.{row_c16, row_c32, row_d2, row_d4, row_e2, row_e4}
-use Rattle.words.specs.Says.{As, Nothing, table_c, table_za, says_first, describe}
+use Rattle.words.specs.Rows.{row_b, row_c16, row_c32, row_d2, row_d4, row_e2, row_e4}
+use Rattle.words.specs.Says.{As, Nothing, fields_b, table_c, table_za, says_first, describe}
 use Rattle.words.specs.Decode.{enables, enables_family, no_fields, decode_enabled, decode_paper}
 use Rattle.words.specs.Kinds.{fields_as, family_as}
 use Rattle.words.specs.declared.Kind.{Kind}
 use Rattle.words.specs.declared.Kind.TheVariants as kind
+use Rattle.words.proofs.Ranges.{in_range}
 
 -- ---- the top byte
 
@@ -55,6 +58,25 @@ enables_as features kind.LongLong2 w = refl
 enables_as features kind.LongLong4 w = refl
 enables_as features kind.Long2 w = refl
 enables_as features kind.Long4 w = refl
+
+-- a lane of B is not that of the reserved size
+not_reserved : (s : ℕ) → s < 4 → (8 * 2 ^ s ≡ 8) ⊎ ((8 * 2 ^ s ≡ 16) ⊎ (8 * 2 ^ s ≡ 32)) → s < 3
+not_reserved zero h l = omega arith
+not_reserved (suc zero) h l = omega arith
+not_reserved (suc (suc zero)) h l = omega arith
+not_reserved (suc (suc (suc zero))) h l = let p : 64 < 64 = one_of_three (λ n. n < 64) 8 16 32 (omega arith) (omega arith) (omega arith) 64 l in absurd (omega arith)
+not_reserved (suc (suc (suc (suc s)))) h l = absurd (omega arith)
+
+-- so a word that says the fields of B has a size that is not reserved
+pub size_of_b : (w : ℕ) → describe w ≡ As (fields_b (value row_b w)) → value row_b w "s" < 3
+size_of_b w e = not_reserved (value row_b w "s") (omega arith) (in_range w (fields_b (value row_b w)) e).lane
+
+some_lane : (l : ℕ) → (l ≡ 8) ⊎ ((l ≡ 16) ⊎ (l ≡ 32)) → 0 < l
+some_lane = one_of_three (λ l. 0 < l) 8 16 32 (omega arith) (omega arith) (omega arith)
+
+-- no word says the zeros of a refusal
+pub says_zeros : (w : ℕ) → describe w ≡ As no_fields → ⊥
+says_zeros w e = let p : 0 < 0 = some_lane 0 (in_range w no_fields e).lane in omega arith
 
 -- ---- the answer to a word
 

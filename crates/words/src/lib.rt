@@ -4,7 +4,7 @@ ghost use Rattle.std.specs.Prelude.{◌≡◌, ◌*◌, ◌^◌, ◌<◌};
 ghost use Rattle.layouts.specs.Layout.{matches, value};
 ghost use Rattle.words.specs.Numbers.{family_number, FamilyOf};
 ghost use Rattle.words.specs.Rows.{row_a, row_b, IsWide, IsGroup, row_c, row_d, row_e};
-ghost use Rattle.words.specs.Says.{fields_b, fields_c, into_za, fields_d, fields_e, entry_a, entry_b, table_c, table_za, says_of, says_first, describe as describe_paper};
+ghost use Rattle.words.specs.Says.{by_vector, fields_b, fields_c, into_za, fields_d, fields_e, entry_a, entry_b, table_c, table_za, says_of, says_first, describe as describe_paper};
 ghost use Rattle.words.specs.Decode.{enables_family, enables as enables_paper, decoded_says, decode_paper};
 ghost use Rattle.words.specs.Kinds.{fields_by, fields_as, says_as, family_as, EnabledKind};
 ghost use Rattle.settings.specs.Refused.{word_says};
@@ -183,15 +183,15 @@ fn fields_a<const LANE: u32>(w: u32) -> Fields
     }
 }
 
-// The fields of a word of B: its lane is 8<<ss.
-fn fields_b(w: u32) -> Fields
-    ensures { result ≡ fields_b (value row_b w) }
+// The fields of a word of B, of a lane.
+pub fn fields_b(w: u32, lane: u32) -> Fields
+    ensures { result ≡ by_vector (value row_b w) lane }
 {
     Fields {
         family: Family::Vector,
         unsigned: w / BIT_29 % 2 == 1,
         subtract: w / BIT_13 % 2 == 1,
-        lane: 8 << (w / BIT_22 % 4),
+        lane,
         part: w / BIT_30 % 2,
         index: 0,
         destination: w / BIT_0 % 32,
@@ -201,6 +201,19 @@ fn fields_b(w: u32) -> Fields
         select: 0,
         offset: 0,
     }
+}
+
+// The fields of a word of B: its lane is 8<<ss.
+fn vector_fields(w: u32) -> Fields
+    ensures { result ≡ fields_b (value row_b w) }
+{
+    let lane = match w / BIT_22 % 4 {
+        0b00 => 8,
+        0b01 => 16,
+        0b10 => 32,
+        _ => 64,
+    };
+    fields_b(w, lane)
 }
 
 // The fields of a word of C whose lane is LANE. The second source's number has three bits where the lane is 16, and the index two
@@ -366,7 +379,7 @@ pub fn fields_of(kind: Kind, w: u32) -> Fields
     match kind {
         Kind::ByElement16 => fields_a::<16>(w),
         Kind::ByElement32 => fields_a::<32>(w),
-        Kind::Vector => fields_b(w),
+        Kind::Vector => vector_fields(w),
         Kind::Saturating16 => fields_c::<16>(w),
         Kind::Saturating32 => fields_c::<32>(w),
         Kind::LongLong2 => fields_d::<2>(w),
