@@ -1,9 +1,9 @@
 -- What a step and its parts are, over any width, by signs and magnitudes and by factors that are raised until none is negative. The code goes to 64 bits
 -- first: the laws of Wrapping and Saturation by which it meets its contracts go by `added`, `subtracted`, `lane_is`, `clamp_value` and `sat_is`. It raises
 -- no factor: of `product_is` they take the case of unsigned lanes, which are raised by nothing; signed ones are multiplied as integers. Assumes nothing.
-use Rattle.std.proofs.Common.{◌≡◌, ℕ, zero, suc, ◌+◌, ◌-◌, ◌*◌, ◌%◌, ◌^◌, ◌<◌, ◌≤◌, min, Bool, true, false, not, ℤ, pos, negsuc, ◌+ℤ◌, ◌-ℤ◌, ◌*ℤ◌, neg_ℤ, sym, refl, ap, ◌∙◌, ap₂, mod-eq_of_lt, mul-zero, zero-mul, arith, pow_pos, le-ltb, lt-ltb}
+use Rattle.std.proofs.Common.{◌≡◌, ℕ, zero, suc, ◌+◌, ◌-◌, ◌*◌, ◌%◌, ◌^◌, ◌<◌, ◌≤◌, min, Bool, true, false, not, ℤ, pos, negsuc, ◌+ℤ◌, ◌-ℤ◌, ◌*ℤ◌, neg_ℤ, sym, refl, ap, ◌∙◌, ap₂, mod-eq_of_lt, mul-zero, zero-mul, arith, pow_pos, le-ltb, lt-ltb, lt_of_le_of_lt, mul-le-mul_right, pow-add}
 use mathlib.Core.Bool.{not-not}
-use native.Mathlib.Nat.{mod-mod, zero-min, add-mul-mod_self_right}
+use native.Mathlib.Nat.{mod-mod, zero-min, add-mul-mod_self_right, mul-lt-mul_of_pos_left}
 use lib.IntN.{+ℤ_comm, +ℤ_idl, neg_ℤ-+ℤ, neg_ℤ-neg_ℤ}
 use Rattle.laws.proofs.Tests.{by_lt}
 use Rattle.lanes.specs.Lane.{s_int, int_of, low, product, accumulate, lane_step, add_sub, clamp, signed_sat, sat_step}
@@ -21,7 +21,7 @@ by_sign (negsuc m) f = f true (suc m) refl
 
 -- ---- sums of two signs
 
-sum_ge : (s : Bool) (a b : ℕ) → b ≤ a → signed_value s a +ℤ signed_value (not s) b ≡ signed_value s (a - b)
+pub sum_ge : (s : Bool) (a b : ℕ) → b ≤ a → signed_value s a +ℤ signed_value (not s) b ≡ signed_value s (a - b)
 unfolding signed_value
 sum_ge false a b h = minus_ge a b h
 sum_ge true a b h =
@@ -29,7 +29,7 @@ sum_ge true a b h =
     ∙ sym (neg_ℤ-+ℤ (pos a) (neg_ℤ (pos b)))
     ∙ ap neg_ℤ (minus_ge a b h)
 
-sum_le : (s : Bool) (a b : ℕ) → a ≤ b → signed_value s a +ℤ signed_value (not s) b ≡ signed_value (not s) (b - a)
+pub sum_le : (s : Bool) (a b : ℕ) → a ≤ b → signed_value s a +ℤ signed_value (not s) b ≡ signed_value (not s) (b - a)
 sum_le s a b h =
     +ℤ_comm (signed_value s a) (signed_value (not s) b)
     ∙ ap (λ (t : Bool). signed_value (not s) b +ℤ signed_value t a) (sym (not-not s))
@@ -48,6 +48,11 @@ value_times true true zero zero = refl
 value_times true true zero (suc b) = simp zero-mul
 value_times true true (suc a) zero = simp mul-zero
 value_times true true (suc a) (suc b) = refl
+
+-- the product of magnitudes of j and of k bits has at most j + k
+pub below : (j k : ℕ) {a b : ℕ} → a ≤ 2 ^ j → b < 2 ^ k → a * b < 2 ^ (j + k)
+below j k {a} {b} ha hb =
+    rw pow-add (lt_of_le_of_lt (mul-le-mul_right b ha) (mul-lt-mul_of_pos_left hb (pow_pos j)))
 
 -- ---- adding to the accumulator
 
@@ -197,9 +202,9 @@ clamp_value (suc top) h true zero = clamp-pos top zero ∙ simp zero-min
 clamp_value (suc top) h true (suc m) = clamp_neg top m
 
 -- no further than top
-pub limit_le : (top : ℕ) (s : Bool) (m : ℕ) → min m (limit top s) ≤ top
-limit_le top false m = omega arith
-limit_le top true m = omega arith
+pub limit_le : (top : ℕ) (s : Bool) → limit top s ≤ top
+limit_le top false = omega arith
+limit_le top true = omega arith
 
 -- ---- the whole step that saturates
 

@@ -82,9 +82,9 @@ signs_step lane wide subtract acc x y r p d b k hw ep ed eb ek er =
     by_sign (signed_value sa ma +ℤ signed_value (signs v subtract) dm) (λ e n ee.
     let em : ℕ = min n (limit h e) in
     let clamped : k ≡ signed_value e em = ek ∙ ap (clamp h) (sum ∙ sym ee) ∙ clamp_value h top e n in
-    let whole : em < 2 ^ wide = omega (arith, two-halves wide hw, limit_le h e n) in
+    let whole : em < 2 ^ wide = omega (arith, two-halves wide hw, limit_le h e) in
     sat_is lane wide subtract acc x y r h s t v v sa e i j m dm ma em hw refl ex ey refl refl
-    (sym (clamp_value h top v (m + m))) ea (sym (clamp_value h top e n) ∙ ap (clamp h) ee) (limit_le h e n)
+    (sym (clamp_value h top v (m + m))) ea (sym (clamp_value h top e n) ∙ ap (clamp h) ee) (omega (arith, limit_le h e))
     (er ∙ ap (low wide) (clamped ∙ sym (+ℤ_idl (signed_value e em))) ∙ ap (λ (k : ℕ). low wide (pos zero +ℤ signed_value e k)) (sym (mod-eq_of_lt whole)))))))
 
 -- there is one number of no bits
