@@ -164,6 +164,16 @@ fn perform(machine: &mut Machine<'_>, words: &[u32], report: &mut [u32]) -> Coun
     tally
 }
 
+// `to` takes the bytes of `from`. A loop, since the library's `copy_from_slice` has the archive for C ask for memmove from outside.
+fn copy(from: &[u8], to: &mut [u8])
+    requires { length from.now ≡ length to.old }
+    ensures { to.new ≡ from.now }
+{
+    for (i, byte) in to.iter_mut().enumerate() {
+        *byte = from[i];
+    }
+}
+
 // Reads the words into a room for so many, and runs them from the list's Z bytes on.
 fn run_words<const ROOM: usize>(
     list: &[u8],
@@ -181,7 +191,7 @@ fn run_words<const ROOM: usize>(
     let words = &mut room[..front.words];
     read_to_end(list, front.from, words)?;
     let end = front.at + z.len();
-    z.copy_from_slice(&list[front.at..end]);
+    copy(&list[front.at..end], z);
     za.fill(0);
     let mut machine = Machine {
         settings: front.settings,
