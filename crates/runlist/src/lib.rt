@@ -39,13 +39,14 @@ pub struct Lengths {
     pub report: usize,
 }
 
-// What stands before the words of a list: the settings, the place of the Z bytes, that of the words, and how many there are.
+// What stands before the words of a list: the place of the Z bytes, that of the words, how many there are, and the settings. These are last, since a
+// fault lies over what is first: the settings were taken apart into bytes for it, and put together again.
 #[derive(Clone, Copy)]
 pub struct Front {
-    pub settings: Settings,
     pub at: usize,
     pub from: usize,
     pub words: usize,
+    pub settings: Settings,
 }
 
 // The settings of the seven numbers in front.
@@ -164,7 +165,9 @@ fn perform(machine: &mut Machine<'_>, words: &[u32], report: &mut [u32]) -> Coun
     tally
 }
 
-// `to` takes the bytes of `from`. A loop, since the library's `copy_from_slice` has the archive for C ask for memmove from outside.
+// `to` takes the bytes of `from`. A loop, since the library's `copy_from_slice` has the archive for C ask for memmove from outside. By itself, since
+// amid the rest of a run it has no registers left for the places, and is there twice.
+#[inline(never)]
 fn copy(from: &[u8], to: &mut [u8])
     requires { length from.now ≡ length to.old }
     ensures { to.new ≡ from.now }
@@ -191,8 +194,8 @@ fn run_words<const ROOM: usize>(
     let words = &mut room[..front.words];
     read_to_end(list, front.from, words)?;
     let end = front.at + z.len();
-    copy(&list[front.at..end], z);
     za.fill(0);
+    copy(&list[front.at..end], z);
     let mut machine = Machine {
         settings: front.settings,
         z,
