@@ -41,7 +41,7 @@ fn words_again(list: &[u8], lengths: Lengths, words: &mut [u32])
     requires { length words.old ≡ most_words }
     ensures { WordsAgain list.now lengths words.new }
 {
-    if let Ok(front) = runlist::read_front(list, lengths) {
+    if let Ok(front) = runlist::read_front(list, lengths, &mut [0; runlist::HEAD]) {
         let _ = runlist::read_to_end(list, front.from, &mut words[..front.words]);
     }
 }

@@ -125,6 +125,11 @@ module _ (list : List ℕ) (lent : Lengths) (s : Settings) (at : ℕ) where
 
 -- ---- the seven numbers, and what follows them
 
+-- also of a row with a fault in it
+pub head_filled : (list room head : List ℕ) → length room ≡ 7 → head ≡ filled (numbers_at list 0 (length room)) room
+    → head ≡ filled (numbers_at list 0 7) room
+head_filled list room head l f = f ∙ ap (λ (n : ℕ). filled (numbers_at list 0 n) room) l
+
 module _ (list : List ℕ) (lent : Lengths) (room : List ℕ) (l : length room ≡ 7) where
   seven : numbers_at list 0 (length room) ≡ numbers_at list 0 7
   seven = ap (numbers_at list 0) l

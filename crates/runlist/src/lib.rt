@@ -22,7 +22,7 @@ pub const MOST_WORDS: usize = 1024;
 const FEW_WORDS: usize = 64;
 
 // VL, features, modes, W8 to W11.
-const HEAD: usize = 7;
+pub const HEAD: usize = 7;
 
 // A list that ran: how many words it has, and their tally.
 #[derive(Clone, Copy)]
@@ -39,26 +39,27 @@ pub struct Lengths {
     pub report: usize,
 }
 
-// What stands before the words of a list: the settings, the place of the Z bytes, that of the words, and how many there are.
+// What stands before the words of a list: the place of the Z bytes, that of the words, how many there are, and the settings. These are last, since a
+// fault lies over what is first: the settings were taken apart into bytes for it, and put together again.
 #[derive(Clone, Copy)]
 pub struct Front {
-    pub settings: Settings,
     pub at: usize,
     pub from: usize,
     pub words: usize,
+    pub settings: Settings,
 }
 
 // The settings of the seven numbers in front.
 #[tactic(auto, unfolding(crate::specs::Plan::settings_of))]
-pub fn settings_of(head: &[u32; HEAD]) -> Settings
+pub fn settings_of(head: &[u32]) -> Settings
+    requires { length head.now ≡ 7 }
     ensures { result ≡ settings_of head.now }
 {
-    let [vl, features, modes, w8, w9, w10, w11] = *head;
     Settings {
-        vl,
-        features: Features(features),
-        modes: Modes(modes),
-        select: [w8, w9, w10, w11],
+        vl: head[0],
+        features: Features(head[1]),
+        modes: Modes(head[2]),
+        select: [head[3], head[4], head[5], head[6]],
     }
 }
 
@@ -130,13 +131,14 @@ fn read_rest(list: &[u8], lengths: Lengths, settings: Settings, at: usize) -> Re
     })
 }
 
-// Reads a list up to its words. It writes nothing that is lent.
-pub fn read_front(list: &[u8], lengths: Lengths) -> Result<Front, Fault>
-    ensures { FrontRead list.now lengths result }
+// Reads a list up to its words. It writes nothing but `head`, the room for the seven numbers in front: of a refused list too it tells which
+// of them stand before the fault.
+pub fn read_front(list: &[u8], lengths: Lengths, head: &mut [u32; HEAD]) -> Result<Front, Fault>
+    ensures front_read { FrontRead list.now lengths result }
+    ensures head_after { head.new ≡ filled (numbers_at list.now 0 7) head.old }
 {
-    let mut head = [0u32; HEAD];
-    let at = numbers::read_numbers(list, 0, &mut head)?;
-    read_rest(list, lengths, settings_of(&head), at)
+    let at = numbers::read_numbers(list, 0, head)?;
+    read_rest(list, lengths, settings_of(head), at)
 }
 
 // The numbers of word i.
@@ -163,6 +165,18 @@ fn perform(machine: &mut Machine<'_>, words: &[u32], report: &mut [u32]) -> Coun
     tally
 }
 
+// `to` takes the bytes of `from`. A loop, since the library's `copy_from_slice` has the archive for C ask for memmove from outside. By itself, since
+// amid the rest of a run it has no registers left for the places, and is there twice.
+#[inline(never)]
+fn copy(from: &[u8], to: &mut [u8])
+    requires { length from.now ≡ length to.old }
+    ensures { to.new ≡ from.now }
+{
+    for (i, byte) in to.iter_mut().enumerate() {
+        *byte = from[i];
+    }
+}
+
 // Reads the words into a room for so many, and runs them from the list's Z bytes on.
 fn run_words<const ROOM: usize>(
     list: &[u8],
@@ -180,8 +194,8 @@ fn run_words<const ROOM: usize>(
     let words = &mut room[..front.words];
     read_to_end(list, front.from, words)?;
     let end = front.at + z.len();
-    z.copy_from_slice(&list[front.at..end]);
     za.fill(0);
+    copy(&list[front.at..end], z);
     let mut machine = Machine {
         settings: front.settings,
         z,
@@ -203,7 +217,7 @@ pub fn run(list: &[u8], z: &mut [u8], za: &mut [u8], report: &mut [u32]) -> Resu
         za: za.len(),
         report: report.len(),
     };
-    let front = read_front(list, lengths)?;
+    let front = read_front(list, lengths, &mut [0; HEAD])?;
     if front.words <= FEW_WORDS {
         return run_words::<FEW_WORDS>(list, front, z, za, report);
     }

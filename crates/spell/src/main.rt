@@ -1,7 +1,7 @@
 // For people: a line of eight hexadecimal digits becomes the text of the word, and a line of text becomes the word.
 #![tactic(auto)]
 
-ghost use Rattle.std.specs.Prelude.{◌≡◌, false, [], ◌++◌, ◌<◌, length};
+ghost use Rattle.std.specs.Prelude.{◌≡◌, false, [], ◌++◌, ◌<◌, ◌≤◌, length};
 ghost use Rattle.pieces.specs.Pieces.{text};
 ghost use Rattle.words.specs.Decode.{decode_paper};
 ghost use Rattle.spelling.specs.Spell.{longest_text};
@@ -113,15 +113,17 @@ fn take_piece(rt: &impl Print, piece: &[u8], line: &mut ArrayVec<u8, KEPT>) -> i
         if *byte == b'\n' {
             answer(rt, line.as_slice())?;
             line.clear();
-        } else {
-            let _ = line.try_push(*byte);
+        } else if line.len() < KEPT {
+            line.push(*byte);
         }
     }
     Ok(())
 }
 
 // A read that fails is the input's end.
-fn read_some<'a>(from: &mut impl Read, input: &'a mut [u8]) -> &'a [u8] {
+fn read_some<'a>(from: &mut impl Read, input: &'a mut [u8]) -> &'a [u8]
+    ensures { length result.now ≤ length input.old }
+{
     let got = from.read(input).unwrap_or(0);
     &input[..got]
 }
