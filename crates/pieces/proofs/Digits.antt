@@ -82,7 +82,7 @@ one_placed b (suc j) n c out some inside e =
     ∙ sym (append_snoc (digits b j (n / b)) (glyph_of (n % b)) (drop (suc j) out)))
 
 -- they are text
-ascii_glyph : (d : ℕ) → d < 16 → glyph_of d < 128
+pub ascii_glyph : (d : ℕ) → d < 16 → glyph_of d < 128
 ascii_glyph d h = by_lt d 10 (λ (l : d < 10). rw (lt-ltb d 10 l) (omega arith)) (λ (l : 10 ≤ d). rw (le-ltb d 10 l) (omega arith))
 
 small_one : {c : ℕ} → c < 128 → IsAscii (c ∷ [])
