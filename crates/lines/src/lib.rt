@@ -9,50 +9,55 @@ ghost use Rattle.lines.specs.Lines.{refused_line, counts_after, outcome, word_li
 
 use arrayvec::ArrayString;
 
-// Toggled, written and percent, to the line's end.
-#[tactic(auto, unfolding(crate::specs::Lines::counts_after))]
-fn counts(toggled: u32, written: u32) -> ArrayString<63>
-    ensures { result.bytes ≡ counts_after [] toggled written }
+// Toggled, written and percent, to the line's end. What a word's line is made of goes onto `out` piece by piece: texts of its own, handed out and
+// copied from one to the next, took three times as long.
+fn push_counts<const N: usize>(out: &mut ArrayString<N>, toggled: u32, written: u32)
+    requires { array_string_len out.old + 63 ≤ N }
+    ensures text { out.new.bytes ≡ out.old.bytes ++ counts_after [] toggled written }
+    ensures upper_bound { array_string_len out.new ≤ array_string_len out.old + 63 }
 {
-    let mut text = ArrayString::new();
-    text.push_str(&pieces::decimal(toggled as u64));
-    text.push_str(" ");
-    text.push_str(&pieces::decimal(written as u64));
-    text.push_str(" ");
-    text.push_str(&pieces::decimal(rate::percent(toggled, written)));
-    text.push_str("\n");
-    text
+    pieces::push_decimal(out, toggled as u64);
+    out.push_str(" ");
+    pieces::push_decimal(out, written as u64);
+    out.push_str(" ");
+    pieces::push_decimal(out, rate::percent(toggled, written));
+    out.push_str("\n");
 }
 
 // What became of a word, to the line's end.
 // Kept: `refusal == 0`, and toggled beside written: they are numbers of the report, which is the C interface, and of what a line says.
-#[tactic(auto, unfolding(crate::specs::Lines::outcome, crate::specs::Lines::counts_after))]
-fn outcome(refusal: u32, toggled: u32, written: u32) -> ArrayString<64>
-    ensures { result.bytes ≡ outcome refusal toggled written }
+fn push_outcome<const N: usize>(out: &mut ArrayString<N>, refusal: u32, toggled: u32, written: u32)
+    requires { array_string_len out.old + 64 ≤ N }
+    ensures text { out.new.bytes ≡ out.old.bytes ++ outcome refusal toggled written }
+    ensures upper_bound { array_string_len out.new ≤ array_string_len out.old + 64 }
 {
-    let mut text = ArrayString::new();
     if refusal == 0 {
-        text.push_str(" ");
-        text.push_str(&counts(toggled, written));
-        return text;
+        out.push_str(" ");
+        push_counts(out, toggled, written);
+        return;
     }
-    text.push_str(" refused ");
-    text.push_str(&pieces::decimal(refusal as u64));
-    text.push_str("\n");
-    text
+    out.push_str(" refused ");
+    pieces::push_decimal(out, refusal as u64);
+    out.push_str("\n");
 }
 
 // The line of a word: its number from 1 on, the word, and what became of it.
-#[tactic(auto, unfolding(crate::specs::Lines::word_line))]
-fn word_line(number: usize, word: u32, refusal: u32, toggled: u32, written: u32) -> ArrayString<93>
-    ensures { result.bytes ≡ word_line number word refusal toggled written }
+fn push_word<const N: usize>(
+    out: &mut ArrayString<N>,
+    number: usize,
+    word: u32,
+    refusal: u32,
+    toggled: u32,
+    written: u32,
+)
+    requires { array_string_len out.old + 93 ≤ N }
+    ensures text { out.new.bytes ≡ out.old.bytes ++ word_line number word refusal toggled written }
+    ensures upper_bound { array_string_len out.new ≤ array_string_len out.old + 93 }
 {
-    let mut line = ArrayString::new();
-    line.push_str(&pieces::decimal(number as u64));
-    line.push_str(" ");
-    line.push_str(&pieces::hex8(word));
-    line.push_str(&outcome(refusal, toggled, written));
-    line
+    pieces::push_decimal(out, number as u64);
+    out.push_str(" ");
+    pieces::push_hex8(out, word);
+    push_outcome(out, refusal, toggled, written);
 }
 
 // How many words a list has.
@@ -73,7 +78,7 @@ fn total_line(toggled: u32, written: u32) -> ArrayString<69>
 {
     let mut line = ArrayString::new();
     line.push_str("total ");
-    line.push_str(&counts(toggled, written));
+    push_counts(&mut line, toggled, written);
     line
 }
 
@@ -87,7 +92,7 @@ fn push_lines<const N: usize>(out: &mut ArrayString<N>, words: &[u32], report: &
     let (fours, _) = report.as_chunks::<4>();
     for (i, (word, numbers)) in words.iter().zip(fours).enumerate() {
         let [refusal, rises, falls, written] = *numbers;
-        out.push_str(&word_line(i + 1, *word, refusal, rises + falls, written));
+        push_word(out, i + 1, *word, refusal, rises + falls, written);
     }
 }
 

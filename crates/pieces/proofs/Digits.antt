@@ -82,7 +82,7 @@ one_placed b (suc j) n c out some inside e =
     ∙ sym (append_snoc (digits b j (n / b)) (glyph_of (n % b)) (drop (suc j) out)))
 
 -- they are text
-ascii_glyph : (d : ℕ) → d < 16 → glyph_of d < 128
+pub ascii_glyph : (d : ℕ) → d < 16 → glyph_of d < 128
 ascii_glyph d h = by_lt d 10 (λ (l : d < 10). rw (lt-ltb d 10 l) (omega arith)) (λ (l : 10 ≤ d). rw (le-ltb d 10 l) (omega arith))
 
 small_one : {c : ℕ} → c < 128 → IsAscii (c ∷ [])
@@ -123,17 +123,35 @@ by_tens P one more zero n h = absurd (omega arith)
 by_tens P one more (suc k) n h = by_lt n 10 (one n) (λ (t : 10 ≤ n). more n t (by_tens P one more k (n / 10) (omega arith)))
 
 -- how many there are
-length_one : (n : ℕ) → n < 10 → length (decimal n) ≡ 1
+pub length_one : (n : ℕ) → n < 10 → length (decimal n) ≡ 1
 length_one n h = rw (decimal_one n h)
 
-length_more : (n : ℕ) → 10 ≤ n → length (decimal n) ≡ suc (length (decimal (n / 10)))
+pub length_more : (n : ℕ) → 10 ≤ n → length (decimal n) ≡ suc (length (decimal (n / 10)))
 length_more n h = rw (decimal_more n h, length-append) (omega arith)
+
+pub length-decimal : (k n : ℕ) → n < 10 ^ suc k → length (decimal n) ≤ suc k
+length-decimal zero n h = omega (arith, length_one n h)
+length-decimal (suc k) n h =
+    let high = length-decimal k (n / 10) (one_less 10 (suc k) n (omega arith) h) in
+    by_lt n 10
+    (λ (t : n < 10). omega (arith, length_one n t))
+    (λ (t : 10 ≤ n). omega (arith, length_more n t))
 
 some-decimal : (n : ℕ) → 0 < length (decimal n)
 some-decimal n =
     by_lt n 10
     (λ (t : n < 10). omega (arith, length_one n t))
     (λ (t : 10 ≤ n). omega (arith, length_more n t))
+
+-- they are the number's last ones, as many as there are
+pub decimal-digits : (n : ℕ) → decimal n ≡ digits 10 (length (decimal n)) n
+unfolding digits
+decimal-digits n =
+    by_tens (λ (x : ℕ). decimal x ≡ digits 10 (length (decimal x)) x)
+    (λ (x : ℕ) (t : x < 10). rw (decimal_one x t, mod-eq_of_lt t))
+    (λ (x : ℕ) (t : 10 ≤ x) (e : decimal (x / 10) ≡ digits 10 (length (decimal (x / 10))) (x / 10)).
+    rw (length_more x t) (decimal_more x t ∙ ap (λ (s : List ℕ). s ++ glyph_of (x % 10) ∷ []) e))
+    (suc n) n (omega arith)
 
 appends : AppendsLastDigit decimal_up_to
 unfolding decimal_up_to

@@ -2,8 +2,8 @@
 use Prim.Native.Nat.{ℕ, ◌+◌, ◌≤◌}
 use native.Mathlib.Omega.{arith}
 use mathlib.Core.Path.{◌≡◌, sym, ap, ◌∙◌}
-use mathlib.Core.List.{List, ◌++◌, append_assoc}
-use lib.ListN.{length, take, drop, length-append, length-drop}
+use mathlib.Core.List.{List, [], ◌++◌, append_assoc, append-nil}
+use lib.ListN.{length, take, drop, length-append, length-drop, take-append-drop}
 use lib.Seq.{length-take-le, take_at, drop_at}
 use Rattle.laws.proofs.Lists.{drop_more}
 use Rattle.pieces.specs.Pieces.{Wrote, Stands}
@@ -43,6 +43,11 @@ and_then {t} {u} {at} {r} {q} {out₀} {out₁} {out₂} x y =
 -- the same text, said otherwise
 pub said : {t u : List ℕ} {at r : ℕ} {out out' : List ℕ} → t ≡ u → Wrote t at out out' r → Wrote u at out out' r
 said e w = rw (← e) w
+
+pub nothing : (at : ℕ) (out : List ℕ) → at ≤ length out → Wrote [] at out out at
+nothing at out h =
+    let none : at + length {A = ℕ} [] ≡ at = omega arith in
+    record { ends = sym none; fits = h; bytes = rw (none, append-nil) (sym (take-append-drop at out)) }
 
 -- any two answers that `Wrote` allows are equal, and so is the room at the end
 pub wrote_unique : {t : List ℕ} {at r q : ℕ} {out out₁ out₂ : List ℕ} → Wrote t at out out₁ r → Wrote t at out out₂ q → (r ≡ q) × (out₁ ≡ out₂)

@@ -1,7 +1,8 @@
 // Pieces of text: a number by its digits, as a text of its own.
 #![tactic(auto)]
 
-ghost use Rattle.std.specs.Prelude.{◌≡◌, ◌≤◌, ◌<◌};
+ghost use Rattle.std.specs.Prelude.{◌≡◌, ◌+◌, ◌≤◌, ◌<◌, ◌++◌};
+ghost use Rattle.arrayvec.specs.ArrayString.{array_string_len};
 ghost use Rattle.pieces.specs.Pieces.{glyph_of, digits, decimal, hex8};
 
 use arrayvec::ArrayString;
@@ -30,18 +31,45 @@ pub fn last_digits<const N: usize>(n: u64, base: u64) -> [u8; N]
     digits
 }
 
-// A number in decimal digits, of which one of 64 bits has at most 20.
+// Adds a number in decimal digits, of which one of 64 bits has at most 20. It goes onto the text at once, since one of its own is made empty, handed
+// out and copied. One digit, as a word's refusal has, needs no buffer.
+pub fn push_decimal<const N: usize>(out: &mut ArrayString<N>, n: u64)
+    requires { array_string_len out.old + 20 ≤ N }
+    ensures text { out.new.bytes ≡ out.old.bytes ++ decimal n }
+    ensures upper_bound { array_string_len out.new ≤ array_string_len out.old + 20 }
+{
+    if n < 10 {
+        out.push(char::from(glyph(n)));
+        return;
+    }
+    out.push_str(Buffer::new().format(n));
+}
+
+// A number in decimal digits, as a text of its own.
 pub fn decimal(n: u64) -> ArrayString<20>
     ensures { result.bytes ≡ decimal n }
 {
     let mut text = ArrayString::new();
-    text.push_str(Buffer::new().format(n));
+    push_decimal(&mut text, n);
     text
 }
 
-// A word in hexadecimal digits.
+// Adds a word in hexadecimal digits, one by one: to test all of them as UTF-8 took a third of a line's time.
+pub fn push_hex8<const N: usize>(out: &mut ArrayString<N>, word: u32)
+    requires { array_string_len out.old + 8 ≤ N }
+    ensures text { out.new.bytes ≡ out.old.bytes ++ hex8 word }
+    ensures upper_bound { array_string_len out.new ≤ array_string_len out.old + 8 }
+{
+    for digit in &last_digits::<8>(u64::from(word), 16) {
+        out.push(char::from(*digit));
+    }
+}
+
+// A word in hexadecimal digits, as a text of its own.
 pub fn hex8(word: u32) -> ArrayString<8>
     ensures { result.bytes ≡ hex8 word }
 {
-    ArrayString::from_byte_string(&last_digits::<8>(u64::from(word), 16)).unwrap()
+    let mut text = ArrayString::new();
+    push_hex8(&mut text, word);
+    text
 }

@@ -47,44 +47,46 @@ fn word_in(line: &[u8]) -> Option<u32>
 // Room for any answer: the longest text has 61 bytes, and a line's end one.
 const ROOM: usize = 64;
 
-fn ended(piece: &[u8]) -> ArrayVec<u8, ROOM>
-    requires { length piece.now < 64 }
-    ensures { result.items ≡ piece.now ++ text "\n" }
+// The answer is put into a text that is lent: one that is handed out was copied at each step, from bytes that were just written.
+fn put_ended(out: &mut ArrayVec<u8, ROOM>, piece: &[u8])
+    requires { (out.old.items ≡ []) × (length piece.now < 64) }
+    ensures { out.new.items ≡ piece.now ++ text "\n" }
 {
-    let mut line = ArrayVec::new();
-    line.try_extend_from_slice(piece).unwrap();
-    line.push(b'\n');
-    line
+    out.try_extend_from_slice(piece).unwrap();
+    out.push(b'\n');
 }
 
 // The text of a word, or its refusal. Since all features are on, a word is refused with 3 only.
-fn text_of(word: u32) -> ArrayVec<u8, ROOM>
-    ensures { result.items ≡ word_text (decode_paper all_on word) ++ text "\n" }
+fn put_text_of(out: &mut ArrayVec<u8, ROOM>, word: u32)
+    requires { out.old.items ≡ [] }
+    ensures { out.new.items ≡ word_text (decode_paper all_on word) ++ text "\n" }
 {
     let mut room = [0; ROOM];
     match spelling::print(ALL_ON, word, &mut room) {
-        Ok(n) => ended(&room[..n]),
-        Err(_) => ended(b"refused 3"),
+        Ok(n) => put_ended(out, &room[..n]),
+        Err(_) => put_ended(out, b"refused 3"),
     }
 }
 
 // The word of a text, or its refusal. Since all features are on, a text is refused with 11 only.
-fn word_of(line: &[u8]) -> ArrayVec<u8, ROOM>
-    ensures { is_word line.now ≡ false → Answers line.now result.items }
+fn put_word_of(out: &mut ArrayVec<u8, ROOM>, line: &[u8])
+    requires { out.old.items ≡ [] }
+    ensures { is_word line.now ≡ false → Answers line.now out.new.items }
 {
     match spelling::word_of(line) {
-        Some(word) => ended(pieces::hex8(word).as_str().as_bytes()),
-        None => ended(b"refused 11"),
+        Some(word) => put_ended(out, pieces::hex8(word).as_str().as_bytes()),
+        None => put_ended(out, b"refused 11"),
     }
 }
 
 // The answer to a line, with the line's end.
-fn answer_to(line: &[u8]) -> ArrayVec<u8, ROOM>
-    ensures { Answers line.now result.items }
+fn put_answer(out: &mut ArrayVec<u8, ROOM>, line: &[u8])
+    requires { out.old.items ≡ [] }
+    ensures { Answers line.now out.new.items }
 {
     match word_in(line) {
-        Some(word) => text_of(word),
-        None => word_of(line),
+        Some(word) => put_text_of(out, word),
+        None => put_word_of(out, line),
     }
 }
 
@@ -103,7 +105,9 @@ fn no_line() -> ArrayVec<u8, KEPT>
 
 // Writes the answer to a line. Each answer is written at once, for whoever types a line and waits.
 fn answer(rt: &impl Print, line: &[u8]) -> io::Result<()> {
-    rt.write_all(answer_to(line).as_slice())
+    let mut out = ArrayVec::new();
+    put_answer(&mut out, line);
+    rt.write_all(out.as_slice())
 }
 
 // Answers the lines that end in a piece of the input, and keeps what `line` has room for of the next one.

@@ -4,8 +4,13 @@ use native.Mathlib.Omega.{arith}
 use mathlib.Core.Path.{◌≡◌, ap, ◌∙◌}
 use mathlib.Core.Bool.{false}
 use mathlib.Core.List.{List, ◌++◌}
-use lib.ListN.{length, drop}
+use lib.ListN.{length, take, drop}
+use lib.Seq.{take-take}
 use borrow.Author.Tests.{le-leb, lt-leb, ne_eqb}
+use Rattle.std.specs.List.{refill}
+use Rattle.std.proofs.lemmas.List.{take-append-le}
+use Rattle.pieces.specs.Pieces.{Wrote}
+use Rattle.pieces.proofs.Pieces.{stands}
 use Rattle.syntax.specs.Syntax.{fill}
 use Rattle.settings.specs.declared.Settings.{Settings}
 use Rattle.words.specs.Decode.{decode_paper}
@@ -15,6 +20,12 @@ use Rattle.spelling.specs.Spell.{letter_values, row_for, spell}
 use Rattle.spelling.specs.Print.{put_into, print_paper}
 
 -- ---- the text into the room
+
+-- what was written at the start of a full text is what stays of it
+pub kept_text : (t all : List ℕ) {room room' : List ℕ} {r : ℕ} → Wrote t 0 room room' r → length room ≤ length all → take r (refill (length all) all room') ≡ t
+kept_text t all {room} {room'} {r} w h =
+    let s = stands w in
+    take-take r (length all) _ (omega arith) ∙ take-append-le r room' _ s.inside ∙ s.is
 
 pub spelled : (f : Fields) (k : ℕ) (t : List ℕ) → k ≡ row_for false f → t ≡ fill (letter_values f) (syntax_at k) → t ≡ spell false f
 unfolding spell

@@ -6,10 +6,11 @@ use native.Mathlib.Omega.{arith}
 use mathlib.Core.Path.{◌≡◌, refl, sym, ap, ap₂, ◌∙◌}
 use mathlib.Core.Bool.{true, false, cond}
 use mathlib.Core.List.{List, [], ◌∷◌, ◌++◌, append_assoc, append-nil}
-use lib.ListN.{length, get_or, set, take, drop, drop_of_length-le}
-use lib.Seq.{take-suc, get_or-drop, drop-cons, drop-drop}
+use lib.ListN.{length, get_or, set, take, drop, length-set, drop_of_length-le}
+use lib.Seq.{take-suc, get_or-drop, drop-cons, drop-drop, set_split, append_snoc}
 use borrow.Author.Tests.{eq-eqb, ne_eqb}
-use Rattle.pieces.specs.Pieces.{decimal}
+use Rattle.pieces.specs.Pieces.{decimal, Wrote}
+use Rattle.pieces.proofs.Pieces.{and_then, nothing, said as wrote_so}
 use Rattle.syntax.specs.Syntax.{is_number, value_in, says, fill, TwoDigits}
 use Rattle.syntax.specs.Scan.{says_of, is_letter, value_of, passes_of, after, fits_of, fits_first, fits, noted_of, noted, taken}
 use Rattle.syntax.proofs.Laws.{by_test, letter_byte, number_letter, no_letter, one_figure, two_figures}
@@ -36,6 +37,25 @@ one_more vs row start i h x y =
 pub nothing_yet : (vs start : List ℕ) → start ≡ start ++ fill vs []
 unfolding fill
 nothing_yet vs start = sym (append-nil start)
+
+-- ---- the same into room that is lent
+
+pub wrote_none : (vs row out : List ℕ) → Wrote (fill vs (take 0 row)) 0 out out 0
+unfolding fill
+wrote_none vs row out = nothing 0 out (omega arith)
+
+pub wrote_more : (vs row : List ℕ) (i : ℕ) {r q : ℕ} {out₀ out₁ out₂ : List ℕ} → i < length row → Wrote (fill vs (take i row)) 0 out₀ out₁ r
+    → Wrote (says vs (get_or row i 0)) r out₁ out₂ q → Wrote (fill vs (take (i + 1) row)) 0 out₀ out₂ q
+wrote_more vs row i h x y = wrote_so (fill_more vs row i h) (and_then x y)
+
+one_byte : (out : List ℕ) (at b : ℕ) → at < length out → Wrote (b ∷ []) at out (set out at b) (at + 1)
+one_byte out at b h = record { ends = refl; fits = omega arith; bytes = set_split out at b h ∙ ap (λ (n : ℕ). take at out ++ b ∷ drop n out) (sym (add-one at)) ∙ sym (append_snoc (take at out) b (drop (at + 1) out)) }
+
+two_bytes : (out : List ℕ) (at a b : ℕ) → at + 2 ≤ length out → Wrote ((a ∷ []) ++ (b ∷ [])) at out (set (set out at a) (at + 1) b) (at + 2)
+two_bytes out at a b h =
+    let l = length-set out at a in
+    let e : at + 1 + 1 ≡ at + 2 = omega arith in
+    rw e at (and_then (one_byte out at a (omega arith)) (one_byte (set out at a) (at + 1) b (omega (arith, l))))
 
 -- ---- what a byte of a row says, by the value of a letter or the byte itself
 
@@ -67,6 +87,18 @@ pub both_said : (start : List ℕ) (x y : ℕ) {said once twice : List ℕ} → 
     → (x ∷ []) ++ (y ∷ []) ≡ said → twice ≡ start ++ said
 both_said start x y p q e =
     q ∙ ap (λ (t : List ℕ). t ++ y ∷ []) p ∙ append_assoc start (x ∷ []) (y ∷ []) ∙ ap (λ (t : List ℕ). start ++ t) e
+
+-- the same into room that is lent
+pub wrote_byte : (c v at : ℕ) (out : List ℕ) → at + 2 ≤ length out → is_number c ≡ false → Wrote (says_of c v) at out (set out at v) (at + 1)
+wrote_byte c v at out h n = wrote_so (rw n) (one_byte out at v (omega arith))
+
+pub wrote_one : (c v at : ℕ) (out : List ℕ) → at + 2 ≤ length out → is_number c ≡ true → v < 10
+    → Wrote (says_of c v) at out (set out at (48 + v)) (at + 1)
+wrote_one c v at out h n l = wrote_so (says_one c v n l) (one_byte out at (48 + v) (omega arith))
+
+pub wrote_two : (c v at : ℕ) (out : List ℕ) → at + 2 ≤ length out → is_number c ≡ true → 10 ≤ v → v < 100
+    → Wrote (says_of c v) at out (set (set out at (48 + v / 10)) (at + 1) (48 + v % 10)) (at + 2)
+wrote_two c v at out h n l s = wrote_so (says_two c v n l s) (two_bytes out at _ _ h)
 
 -- ---- a row is compared, and its values are taken
 

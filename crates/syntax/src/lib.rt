@@ -4,6 +4,7 @@
 ghost use Rattle.std.specs.Prelude.{◌≡◌, true, cond, ◌+◌, ◌*◌, ◌≤◌, ◌<◌, ◌++◌, length, get_or, Some, None};
 ghost use Rattle.std.specs.Char.{is_ascii_uppercase};
 ghost use Rattle.arrayvec.specs.ArrayVec.{array_vec_len};
+ghost use Rattle.pieces.specs.Pieces.{Wrote};
 ghost use Rattle.syntax.specs.Syntax.{is_number, value_in, fill, TwoDigits, OneByte};
 ghost use Rattle.syntax.specs.Scan.{says_of, value_of, passes_of, fits, taken};
 
@@ -54,6 +55,37 @@ pub fn put_row<const N: usize>(out: &mut ArrayVec<u8, N>, row: &[u8], values: &[
     for c in row {
         put_said(out, *c, value_in(values, *c));
     }
+}
+
+// What a byte of a row says by its value, at `at`; answers the place behind it.
+fn write_said(out: &mut [u8], at: usize, c: u8, v: u8) -> usize
+    requires { (at + 2 ≤ length out.old) × (is_number c ≡ true → v < 100) }
+    ensures wrote { Wrote (says_of c v) at out.old out.new result }
+    ensures upper_bound { result ≤ at + 2 }
+{
+    if !is_number(c) {
+        out[at] = v;
+        return at + 1;
+    }
+    if v < 10 {
+        out[at] = b'0' + v;
+        return at + 1;
+    }
+    out[at] = b'0' + v / 10;
+    out[at + 1] = b'0' + v % 10;
+    at + 2
+}
+
+// The text of a row, at the start of room that is lent; answers its length.
+pub fn write_row(out: &mut [u8], row: &[u8], values: &[u32; 26]) -> usize
+    requires { (2 * length row.now ≤ length out.old) × TwoDigits values.now × OneByte values.now }
+    ensures { Wrote (fill values.now row.now) 0 out.old out.new result }
+{
+    let mut at = 0;
+    for c in row {
+        at = write_said(out, at, *c, value_in(values, *c));
+    }
+    at
 }
 
 // ---- a row is read

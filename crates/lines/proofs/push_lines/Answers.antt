@@ -29,8 +29,8 @@ loop-i-preserved g c =
     c.loop-i.yielded c.loop-i.i-iterator c.loop-i.yielded_by c.next.result c.next.new.self (c.in-Some.i, (c.in-Some.word, c.in-Some.numbers)) c.in-Some.is c.next.ensures.steps) in
     let k = length c.loop-i.yielded in
     let more = length_push c.loop-i.yielded (c.in-Some.i, (c.in-Some.word, c.in-Some.numbers)) in (
-      c.push_str.ensures.bytes
-          ∙ rw (more, c.deref.ensures.0, c.word_line.ensures, c.loop-i.invariant.0, n.0, n.1, n.2)
+      c.push_word.ensures.text
+          ∙ rw (more, c.loop-i.invariant.0, n.0, n.1, n.2)
           (one_line c.args.report.now _ c.as_chunks.ensures.front k (omega (arith, n.3)) c.args.words.now c.args.out.now.bytes),
-      omega (arith, more, c.push_str.ensures.len, c.loop-i.invariant.1, c.deref.ensures.1),
+      omega (arith, more, c.push_word.ensures.upper_bound, c.loop-i.invariant.1),
     )
