@@ -133,7 +133,8 @@ fn read_rest(list: &[u8], lengths: Lengths, settings: Settings, at: usize) -> Re
 
 // Reads a list up to its words. It writes nothing but `head`, the room for the seven numbers in front: of a refused list too it tells which
 // of them stand before the fault.
-pub fn read_front(list: &[u8], lengths: Lengths, head: &mut [u32; HEAD]) -> Result<Front, Fault>
+pub fn read_front(list: &[u8], lengths: Lengths, head: &mut [u32]) -> Result<Front, Fault>
+    requires { length head.old ≡ 7 }
     ensures front_read { FrontRead list.now lengths result }
     ensures head_after { head.new ≡ filled (numbers_at list.now 0 7) head.old }
 {
