@@ -1,4 +1,4 @@
-// Pieces of text: a number by its digits, as a text of its own.
+// Pieces of text: a number by its digits, as a text of its own or behind one that is lent.
 #![tactic(auto)]
 
 ghost use Rattle.std.specs.Prelude.{◌≡◌, ◌+◌, ◌≤◌, ◌<◌, ◌++◌};

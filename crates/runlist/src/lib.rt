@@ -39,8 +39,8 @@ pub struct Lengths {
     pub report: usize,
 }
 
-// What stands before the words of a list: the place of the Z bytes, that of the words, how many there are, and the settings. These are last, since a
-// fault lies over what is first: the settings were taken apart into bytes for it, and put together again.
+// What stands before the words of a list: the place of the Z bytes, that of the words, how many there are, and the settings. These are last:
+// in a `Result<Front, Fault>` a fault has the place of what is first, and where that was the settings the compiler took them apart and put them together.
 #[derive(Clone, Copy)]
 pub struct Front {
     pub at: usize,

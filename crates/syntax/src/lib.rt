@@ -58,6 +58,7 @@ pub fn put_row<const N: usize>(out: &mut ArrayVec<u8, N>, row: &[u8], values: &[
 }
 
 // What a byte of a row says by its value, at `at`; answers the place behind it.
+// Kept: beside `put_said`, as `write_row` beside `put_row`: a text that grows keeps its length in memory, where each byte waits for it, and a slice has none.
 fn write_said(out: &mut [u8], at: usize, c: u8, v: u8) -> usize
     requires { (at + 2 ≤ length out.old) × (is_number c ≡ true → v < 100) }
     ensures wrote { Wrote (says_of c v) at out.old out.new result }

@@ -183,7 +183,7 @@ fn fields_a<const LANE: u32>(w: u32) -> Fields
     }
 }
 
-// The fields of a word of B, of a lane.
+// The fields of a word of B, with the lane that is given.
 pub fn fields_b(w: u32, lane: u32) -> Fields
     ensures { result ≡ by_vector (value row_b w) lane }
 {
