@@ -1,15 +1,15 @@
 -- What a step and its parts are, over any width, by signs and magnitudes and by factors that are raised until none is negative. The code goes to 64 bits
--- first: the laws of Wrapping and Saturation by which it meets its contracts go by `added`, `subtracted`, `lane_is`, `clamp_value` and `sat_is`. It raises
--- no factor: of `product_is` they take the case of unsigned lanes, which are raised by nothing; signed ones are multiplied as integers. Assumes nothing.
-use Rattle.std.proofs.Common.{◌≡◌, ℕ, zero, suc, ◌+◌, ◌-◌, ◌*◌, ◌%◌, ◌^◌, ◌<◌, ◌≤◌, min, Bool, true, false, not, ℤ, pos, negsuc, ◌+ℤ◌, ◌-ℤ◌, ◌*ℤ◌, neg_ℤ, sym, refl, ap, ◌∙◌, ap₂, mod-eq_of_lt, mul-zero, zero-mul, arith, pow_pos, le-ltb, lt-ltb, lt_of_le_of_lt, mul-le-mul_right, pow-add}
+-- first, and multiplies signed lanes as integers: the laws of Wrapping and Saturation by which it meets its contracts go by `product_is`, `added`,
+-- `subtracted`, `lane_is`, `clamp_value` and `sat_is`. Assumes nothing.
+use Rattle.std.proofs.Common.{◌≡◌, ℕ, zero, suc, ◌+◌, ◌-◌, ◌*◌, ◌%◌, ◌^◌, ◌<◌, ◌≤◌, min, Bool, true, false, not, ℤ, pos, negsuc, ◌+ℤ◌, ◌-ℤ◌, ◌*ℤ◌, neg_ℤ, sym, refl, ap, ◌∙◌, ap₂, mod-lt, mod-eq_of_lt, mul-zero, zero-mul, arith, pow_pos, le-ltb, lt-ltb, lt_of_le_of_lt, mul-le-mul_right, pow-add}
 use mathlib.Core.Bool.{not-not}
-use native.Mathlib.Nat.{mod-mod, zero-min, add-mul-mod_self_right, mul-lt-mul_of_pos_left}
+use native.Mathlib.Nat.{mod-mod, mod-add-mod, zero-min, add-mul-mod_self_right, mul-lt-mul_of_pos_left}
 use lib.IntN.{+ℤ_comm, +ℤ_idl, neg_ℤ-+ℤ, neg_ℤ-neg_ℤ}
 use Rattle.laws.proofs.Tests.{by_lt}
 use Rattle.lanes.specs.Lane.{s_int, int_of, low, product, accumulate, lane_step, add_sub, clamp, signed_sat, sat_step}
 use Rattle.lanes.specs.Signed.{signed_value, signs, limit}
 use Rattle.lanes.specs.Widths.{raise}
-use Rattle.lanes.proofs.Integers.{minus_lt, minus_ge, low_lt, low-pos, low_sub}
+use Rattle.lanes.proofs.Integers.{minus_lt, minus_ge, low_lt, low-pos, low_sub_is, low_sub}
 use Rattle.lanes.proofs.Widths.{two-halves}
 
 -- ---- an integer has a sign and a magnitude
@@ -143,6 +143,12 @@ raised_times a b h =
 
 -- ---- the product and the step that adds it
 
+-- a lane's integer is the difference of the raised one and what it is raised by
+factor : (lane : ℕ) (unsigned : Bool) (x h a : ℕ) → zero < lane → x < 2 ^ lane → h ≡ raise lane unsigned → a ≡ (x + h) % 2 ^ lane
+    → pos a -ℤ pos h ≡ int_of lane unsigned x
+factor lane unsigned x h a hl hx eh ea =
+    ap (λ (n : ℕ). pos n -ℤ pos h) ea ∙ ap (λ (n : ℕ). pos ((x + n) % 2 ^ lane) -ℤ pos n) eh ∙ raised_is lane unsigned x hl hx
+
 -- the product modulo 2 to n, by one wrapping sum and one wrapping difference
 pub product_is : (lane n : ℕ) (unsigned : Bool) (x y h a b s r : ℕ) → zero < lane → x < 2 ^ lane → y < 2 ^ lane
     → h ≡ raise lane unsigned → a ≡ (x + h) % 2 ^ lane → b ≡ (y + h) % 2 ^ lane
@@ -151,11 +157,36 @@ pub product_is : (lane n : ℕ) (unsigned : Bool) (x y h a b s r : ℕ) → zero
 unfolding product
 product_is lane n unsigned x y h a b s r hl hx hy eh ea eb es k e =
     sym (low_sub n (a * b + h * h) (h * (a + b)) r k (e ∙ es))
-    ∙ ap (low n) (sym (raised_times a b h) ∙ ap₂ (λ (u v : ℤ). u *ℤ v) (factor x a hx ea) (factor y b hy eb))
-  where
-    factor : (x a : ℕ) → x < 2 ^ lane → a ≡ (x + h) % 2 ^ lane → pos a -ℤ pos h ≡ int_of lane unsigned x
-    factor x a hx ea =
-        ap (λ (n : ℕ). pos n -ℤ pos h) ea ∙ ap (λ (n : ℕ). pos ((x + n) % 2 ^ lane) -ℤ pos n) eh ∙ raised_is lane unsigned x hl hx
+    ∙ ap (low n) (sym (raised_times a b h) ∙ ap₂ (λ (u v : ℤ). u *ℤ v) (factor lane unsigned x h a hl hx eh ea) (factor lane unsigned y h b hl hy eh eb))
+
+-- the low bits of the product of two lanes' integers meet that sum and that difference
+pub raised_back : (lane n : ℕ) (unsigned : Bool) (x y h a b r : ℕ)
+    → zero < lane → x < 2 ^ lane → y < 2 ^ lane → h ≡ raise lane unsigned → a ≡ (x + h) % 2 ^ lane → b ≡ (y + h) % 2 ^ lane
+    → r ≡ low n (int_of lane unsigned x *ℤ int_of lane unsigned y)
+    → (r + h * (a + b)) % 2 ^ n ≡ (a * b + h * h) % 2 ^ n
+raised_back lane n unsigned x y h a b r hl hx hy eh ea eb er =
+    let ez : int_of lane unsigned x *ℤ int_of lane unsigned y ≡ pos (a * b + h * h) -ℤ pos (h * (a + b)) =
+    ap₂ (λ (u v : ℤ). u *ℤ v) (sym (factor lane unsigned x h a hl hx eh ea)) (sym (factor lane unsigned y h b hl hy eh eb)) ∙ raised_times a b h in
+    ap (λ (m : ℕ). (m + h * (a + b)) % 2 ^ n) (er ∙ ap (low n) ez) ∙ low_sub_is n (a * b + h * h) (h * (a + b))
+
+-- the signed lane that a is raised from: its integer is m, or minus m
+lowered : {P : Type 0} (n : ℕ) (s : Bool) (m a : ℕ) → Less s a (2 ^ n) m → a < 2 ^ suc n
+    → ((x : ℕ) → x < 2 ^ suc n → int_of (suc n) false x ≡ signed_value s m → P) → P
+lowered n s m a e l k =
+    let two : 2 ^ suc n ≡ 2 ^ n + 2 ^ n = omega arith in
+    let one : n ≡ suc n - 1 = omega arith in
+    let x : ℕ = (a + 2 ^ n) % 2 ^ suc n in
+    let all : a + 2 ^ n + 2 ^ n ≡ a + 1 * 2 ^ suc n = omega (arith, two) in
+    let back : a ≡ (x + 2 ^ n) % 2 ^ suc n =
+    sym (mod-add-mod (a + 2 ^ n) (2 ^ suc n) (2 ^ n) ∙ ap (λ (i : ℕ). i % 2 ^ suc n) all ∙ add-mul-mod_self_right a 1 (2 ^ suc n) ∙ mod-eq_of_lt l) in
+    let lx : x < 2 ^ suc n = mod-lt (a + 2 ^ n) (pow_pos (suc n)) in
+    k x lx (sym (factor (suc n) false x (2 ^ n) a (omega arith) lx (ap (λ (i : ℕ). 2 ^ i) one) back) ∙ less_is s a (2 ^ n) m e)
+
+-- each integer is that of a signed lane of enough bits
+pub some_lane : {P : Type 0} (n : ℕ) (s : Bool) (m : ℕ) → m < 2 ^ n
+    → ((x : ℕ) → x < 2 ^ suc n → int_of (suc n) false x ≡ signed_value s m → P) → P
+some_lane n false m l k = lowered n false m (2 ^ n + m) refl (omega arith) k
+some_lane n true m l k = lowered n true m (2 ^ n - m) (omega arith) (omega (arith, pow_pos n)) k
 
 -- the step adds or subtracts that product
 pub lane_is : (lane wide : ℕ) (unsigned subtract : Bool) (a x y p r : ℕ) → p ≡ product lane wide unsigned x y

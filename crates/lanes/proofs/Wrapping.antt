@@ -1,9 +1,10 @@
 -- A wrapping step, for any widths. Assumes nothing.
-use Rattle.std.proofs.Common.{◌≡◌, ℕ, zero, suc, ◌+◌, ◌-◌, ◌*◌, ◌%◌, ◌^◌, ◌<◌, ◌≤◌, Bool, true, false, ℤ, ◌*ℤ◌, refl, sym, ap, ◌∙◌, mod-lt, mod-eq_of_lt, mul-le-mul_right, add-zero, zero-mul, lt_of_lt_of_le, arith, pow_pos, pow_mono}
+use Rattle.std.proofs.Common.{◌≡◌, ℕ, zero, suc, ◌+◌, ◌-◌, ◌*◌, ◌%◌, ◌^◌, ◌<◌, ◌≤◌, Bool, true, false, ℤ, ◌*ℤ◌, refl, sym, ap, ap₂, ◌∙◌, mod-lt, mod-eq_of_lt, mul-le-mul_right, add-zero, zero-mul, lt_of_lt_of_le, lt_of_le_of_lt, arith, pow_pos, pow_mono}
 use native.Mathlib.Nat.{mod-add-mod, add-mul-mod_self_right}
 use Rattle.lanes.specs.Lane.{s_int, int_of, low, product, accumulate, lane_step}
 use Rattle.lanes.proofs.Integers.{low-low}
-use Rattle.lanes.proofs.AnyWidth.{accumulate_signed, product_is, added, subtracted, lane_is}
+use Rattle.lanes.specs.Widths.{raise}
+use Rattle.lanes.proofs.AnyWidth.{by_sign, accumulate_signed, product_is, raised_back, some_lane, added, subtracted, lane_is}
 use Rattle.lanes.proofs.Saturation.{low_cast}
 use Rattle.std.specs.Int.{w64, cast_unsigned}
 use Rattle.std.specs.Int.RustNames.{FitsSigned}
@@ -15,6 +16,10 @@ pub below : {a b : ℕ} → a < 2 ^ 32 → b < 2 ^ 32 → a * b < 2 ^ 64
 below {a} {b} ha hb =
     let few : a * b ≤ (2 ^ 32 - 1) * b = mul-le-mul_right b (omega arith) in
     omega arith
+
+few : (m : ℕ) → m < 2 ^ m
+few zero = omega arith
+few (suc m) = omega (arith, few m)
 
 -- of unsigned lanes, which are raised by nothing: of as many bits as hold the two, since it is the same for any
 pub unsigned_is : (lane x y : ℕ) → x * y < 2 ^ 64 → x * y ≡ product lane 64 true x y
@@ -30,15 +35,27 @@ unsigned_is lane x y h =
     same : (k m : ℕ) → m < 2 ^ k → m ≡ (m + 0) % 2 ^ k
     same k m l = rw add-zero (sym (mod-eq_of_lt l))
 
-    few : (m : ℕ) → m < 2 ^ m
-    few zero = omega arith
-    few (suc m) = omega (arith, few m)
-
--- of signed ones
+-- of signed ones, which are raised by half their range: of as many bits as hold the two integers
 pub signed_is : (lane x y r : ℕ) (z : ℤ) → z ≡ s_int lane x *ℤ s_int lane y → FitsSigned w64 z → r < 2 ^ 64 → r ≡ cast_unsigned w64 z → r ≡ product lane 64 false x y
 unfolding product int_of
 signed_is lane x y r z ez f h e =
-    sym (mod-eq_of_lt h) ∙ ap (λ (n : ℕ). n % 2 ^ 64) e ∙ low_cast 64 z (omega arith) f ∙ ap (low 64) ez
+    let er : r ≡ low 64 (s_int lane x *ℤ s_int lane y) =
+    sym (mod-eq_of_lt h) ∙ ap (λ (n : ℕ). n % 2 ^ 64) e ∙ low_cast 64 z (omega arith) f ∙ ap (low 64) ez in
+    by_sign (s_int lane x) (λ s p ex.
+    by_sign (s_int lane y) (λ t q ey.
+    some_lane (p + q) s p (lt_of_le_of_lt (omega arith) (few (p + q))) (λ u lu eu.
+    some_lane (p + q) t q (lt_of_le_of_lt (omega arith) (few (p + q))) (λ v lv ev.
+    let eq : int_of (suc (p + q)) false u *ℤ int_of (suc (p + q)) false v ≡ s_int lane x *ℤ s_int lane y =
+    ap₂ (λ (i j : ℤ). i *ℤ j) (eu ∙ ex) (ev ∙ ey) in
+    raised (suc (p + q)) u v r (omega arith) lu lv h (er ∙ ap (low 64) (sym eq)) ∙ ap (low 64) eq))))
+  where
+    raised : (n u v r : ℕ) → zero < n → u < 2 ^ n → v < 2 ^ n → r < 2 ^ 64
+        → r ≡ low 64 (int_of n false u *ℤ int_of n false v) → r ≡ product n 64 false u v
+    raised n u v r hn lu lv h er =
+        let a : ℕ = (u + raise n false) % 2 ^ n in
+        let b : ℕ = (v + raise n false) % 2 ^ n in
+        product_is n 64 false u v (raise n false) a b ((a * b + raise n false * raise n false) % 2 ^ 64) r hn lu lv refl refl refl refl h
+        (raised_back n 64 false u v (raise n false) a b r hn lu lv refl refl refl er)
 
 -- and modulo 2 to a smaller number of bits
 pub product_low : (lane wide n : ℕ) (unsigned : Bool) (x y p : ℕ) → wide ≤ n → p ≡ product lane n unsigned x y
