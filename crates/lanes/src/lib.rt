@@ -74,7 +74,7 @@ fn accumulate<const WIDE: usize>(subtract: bool, acc: u64, product: u64) -> u64
 
 // One lane of A, B, D and E: the accumulator, of `WIDE` bits, after the product of x and y, of `LANE` bits, is added to it or subtracted from it,
 // modulo 2 to its width.
-pub fn lane_step<const LANE: usize, const WIDE: usize>(
+pub fn lane_step_of<const LANE: usize, const WIDE: usize>(
     operation: Operation,
     acc: u64,
     x: u64,
@@ -90,20 +90,20 @@ pub fn lane_step<const LANE: usize, const WIDE: usize>(
 }
 
 // The same, for a caller that has the widths as numbers and not as constants.
-// Kept: a `match` that calls `lane_step` at each pair of widths, since a const parameter takes no number that is known at run time only.
-pub fn lane_step_by(lane: usize, wide: usize, operation: Operation, acc: u64, x: u64, y: u64) -> u64
+// Kept: a `match` that calls `lane_step_of` at each pair of widths, since a const parameter takes no number that is known at run time only.
+pub fn lane_step(lane: usize, wide: usize, operation: Operation, acc: u64, x: u64, y: u64) -> u64
     requires widths { Widths lane wide }
     requires x_bound { (x < 2 ^ lane) × (y < 2 ^ lane) }
     requires acc_bound { acc < 2 ^ wide }
     ensures { (result ≡ lane_step lane wide operation.unsigned operation.subtract acc x y) × (result < 2 ^ wide) }
 {
     match (lane, wide) {
-        (8, 16) => lane_step::<8, 16>(operation, acc, x, y),
-        (8, 32) => lane_step::<8, 32>(operation, acc, x, y),
-        (8, _) => lane_step::<8, 64>(operation, acc, x, y),
-        (16, 32) => lane_step::<16, 32>(operation, acc, x, y),
-        (16, _) => lane_step::<16, 64>(operation, acc, x, y),
-        (_, _) => lane_step::<32, 64>(operation, acc, x, y),
+        (8, 16) => lane_step_of::<8, 16>(operation, acc, x, y),
+        (8, 32) => lane_step_of::<8, 32>(operation, acc, x, y),
+        (8, _) => lane_step_of::<8, 64>(operation, acc, x, y),
+        (16, 32) => lane_step_of::<16, 32>(operation, acc, x, y),
+        (16, _) => lane_step_of::<16, 64>(operation, acc, x, y),
+        (_, _) => lane_step_of::<32, 64>(operation, acc, x, y),
     }
 }
 
@@ -122,7 +122,7 @@ fn clamp<const BITS: usize>(z: i64) -> i64
 }
 
 // One lane of C, the only family that saturates: the doubled product is clamped, then the sum or difference.
-pub fn sat_step<const LANE: usize, const WIDE: usize>(
+pub fn sat_step_of<const LANE: usize, const WIDE: usize>(
     subtract: bool,
     acc: u64,
     x: u64,
@@ -145,20 +145,20 @@ pub fn sat_step<const LANE: usize, const WIDE: usize>(
 }
 
 // The same, for a caller that has the widths as numbers and not as constants.
-// Kept: a `match`, as in `lane_step_by`.
-pub fn sat_step_by(lane: usize, wide: usize, subtract: bool, acc: u64, x: u64, y: u64) -> u64
+// Kept: a `match`, as in `lane_step`.
+pub fn sat_step(lane: usize, wide: usize, subtract: bool, acc: u64, x: u64, y: u64) -> u64
     requires widths { Widths lane wide }
     requires x_bound { (x < 2 ^ lane) × (y < 2 ^ lane) }
     requires acc_bound { acc < 2 ^ wide }
     ensures { (result ≡ sat_step lane wide subtract acc x y) × (result < 2 ^ wide) }
 {
     match (lane, wide) {
-        (8, 16) => sat_step::<8, 16>(subtract, acc, x, y),
-        (8, 32) => sat_step::<8, 32>(subtract, acc, x, y),
-        (8, _) => sat_step::<8, 64>(subtract, acc, x, y),
-        (16, 32) => sat_step::<16, 32>(subtract, acc, x, y),
-        (16, _) => sat_step::<16, 64>(subtract, acc, x, y),
-        (_, _) => sat_step::<32, 64>(subtract, acc, x, y),
+        (8, 16) => sat_step_of::<8, 16>(subtract, acc, x, y),
+        (8, 32) => sat_step_of::<8, 32>(subtract, acc, x, y),
+        (8, _) => sat_step_of::<8, 64>(subtract, acc, x, y),
+        (16, 32) => sat_step_of::<16, 32>(subtract, acc, x, y),
+        (16, _) => sat_step_of::<16, 64>(subtract, acc, x, y),
+        (_, _) => sat_step_of::<32, 64>(subtract, acc, x, y),
     }
 }
 
@@ -180,8 +180,8 @@ pub fn element<const SATURATING: bool, const LANE: usize, const WIDE: usize>(
     let a = elements::read::<LANE>(z, x);
     let b = elements::read::<LANE>(z, y);
     if SATURATING {
-        sat_step::<LANE, WIDE>(operation.subtract, old, a, b)
+        sat_step_of::<LANE, WIDE>(operation.subtract, old, a, b)
     } else {
-        lane_step::<LANE, WIDE>(operation, old, a, b)
+        lane_step_of::<LANE, WIDE>(operation, old, a, b)
     }
 }

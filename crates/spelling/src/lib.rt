@@ -221,13 +221,13 @@ fn values_of(f: Fields) -> [u32; 26]
     values
 }
 
-// The text of a word's fields by a row, in place of a full text: it is written into its bytes, and cut. `put_row` would leave the length in memory at
+// The text of a word's fields by a row, in place of a full text: it is written into its bytes, and cut. `push_row` would leave the length in memory at
 // each byte, where the next byte waits for it; and a text that is handed out is copied twice. Both cost a third of `print`.
 fn put_text(text: &mut ArrayVec<u8, ROOM>, k: usize, f: Fields)
     requires { (k < 18) × (length text.old.items ≡ 112) × Figures f }
     ensures { text.new.items ≡ fill (letter_values f) (syntax_at k) }
 {
-    let n = syntax::write_row(text.as_mut_slice(), row_at(k).text, &values_of(f));
+    let n = syntax::put_row(text.as_mut_slice(), row_at(k).text, &values_of(f));
     text.truncate(n);
 }
 

@@ -29,37 +29,9 @@ fn value_in(values: &[u32; 26], c: u8) -> u8
     values[usize::from(c - b'A')] as u8
 }
 
-// What a byte of a row says by its value.
-fn put_said<const N: usize>(out: &mut ArrayVec<u8, N>, c: u8, v: u8)
-    requires { (array_vec_len out.old + 2 ≤ N) × (is_number c ≡ true → v < 100) }
-    ensures text { out.new.items ≡ out.old.items ++ says_of c v }
-    ensures most { array_vec_len out.new ≤ array_vec_len out.old + 2 }
-{
-    if !is_number(c) {
-        out.push(v);
-        return;
-    }
-    if v < 10 {
-        out.push(b'0' + v);
-        return;
-    }
-    out.push(b'0' + v / 10);
-    out.push(b'0' + v % 10);
-}
-
-// The text of a row, behind what is there. No byte of a row says more than two.
-pub fn put_row<const N: usize>(out: &mut ArrayVec<u8, N>, row: &[u8], values: &[u32; 26])
-    requires { (array_vec_len out.old + 2 * length row.now ≤ N) × TwoDigits values.now × OneByte values.now }
-    ensures { out.new.items ≡ out.old.items ++ fill values.now row.now }
-{
-    for c in row {
-        put_said(out, *c, value_in(values, *c));
-    }
-}
-
 // What a byte of a row says by its value, at `at`; answers the place behind it.
-// Kept: beside `put_said`, as `write_row` beside `put_row`: a text that grows keeps its length in memory, where each byte waits for it, and a slice has none.
-fn write_said(out: &mut [u8], at: usize, c: u8, v: u8) -> usize
+// Kept: beside `push_said`, as `put_row` beside `push_row`: a text that grows keeps its length in memory, where each byte waits for it, and a slice has none.
+fn put_said(out: &mut [u8], at: usize, c: u8, v: u8) -> usize
     requires { (at + 2 ≤ length out.old) × (is_number c ≡ true → v < 100) }
     ensures wrote { Wrote (says_of c v) at out.old out.new result }
     ensures upper_bound { result ≤ at + 2 }
@@ -77,16 +49,44 @@ fn write_said(out: &mut [u8], at: usize, c: u8, v: u8) -> usize
     at + 2
 }
 
-// The text of a row, at the start of room that is lent; answers its length.
-pub fn write_row(out: &mut [u8], row: &[u8], values: &[u32; 26]) -> usize
+// The text of a row, at the start of room that is lent; answers its length. No byte of a row says more than two.
+pub fn put_row(out: &mut [u8], row: &[u8], values: &[u32; 26]) -> usize
     requires { (2 * length row.now ≤ length out.old) × TwoDigits values.now × OneByte values.now }
     ensures { Wrote (fill values.now row.now) 0 out.old out.new result }
 {
     let mut at = 0;
     for c in row {
-        at = write_said(out, at, *c, value_in(values, *c));
+        at = put_said(out, at, *c, value_in(values, *c));
     }
     at
+}
+
+// What a byte of a row says by its value, behind what is there.
+fn push_said<const N: usize>(out: &mut ArrayVec<u8, N>, c: u8, v: u8)
+    requires { (array_vec_len out.old + 2 ≤ N) × (is_number c ≡ true → v < 100) }
+    ensures text { out.new.items ≡ out.old.items ++ says_of c v }
+    ensures most { array_vec_len out.new ≤ array_vec_len out.old + 2 }
+{
+    if !is_number(c) {
+        out.push(v);
+        return;
+    }
+    if v < 10 {
+        out.push(b'0' + v);
+        return;
+    }
+    out.push(b'0' + v / 10);
+    out.push(b'0' + v % 10);
+}
+
+// The text of a row, behind what is there.
+pub fn push_row<const N: usize>(out: &mut ArrayVec<u8, N>, row: &[u8], values: &[u32; 26])
+    requires { (array_vec_len out.old + 2 * length row.now ≤ N) × TwoDigits values.now × OneByte values.now }
+    ensures { out.new.items ≡ out.old.items ++ fill values.now row.now }
+{
+    for c in row {
+        push_said(out, *c, value_in(values, *c));
+    }
 }
 
 // ---- a row is read

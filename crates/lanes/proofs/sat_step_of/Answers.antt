@@ -1,4 +1,4 @@
--- `lanes::sat_step` meets its contract: the clamped step by the library's sums. Assumes nothing.
+-- `lanes::sat_step_of` meets its contract: the clamped step by the library's sums. Assumes nothing.
 use Rattle.std.proofs.Common.{◌≡◌, ℤ, ◌+ℤ◌, ◌-ℤ◌, ◌*ℤ◌, Bool, sym, ap, ap₂, ◌∙◌, rules}
 use Rattle.std.proofs.lemmas.Int.{to_z-of_z}
 use Rattle.std.specs.Int.{w64, cast_unsigned, saturate_to_bits}
@@ -6,8 +6,8 @@ use Rattle.std.specs.Int.RustNames.{FitsSigned}
 use Rattle.lanes.specs.Lane.{s_int, add_sub, signed_sat}
 use Rattle.lanes.proofs.Widths.{width_range}
 use Rattle.lanes.proofs.Saturation.{product_fits, sat_step_is}
-use Rattle.lanes.proofs.sat_step.Goals.{then-subtract, else-subtract}
-use Rattle.lanes.proofs.sat_step.Goals as goal
+use Rattle.lanes.proofs.sat_step_of.Goals.{then-subtract, else-subtract}
+use Rattle.lanes.proofs.sat_step_of.Goals as goal
 
 pub overflow_mul-product : goal.overflow_mul-product
 overflow_mul-product g c =

@@ -1,7 +1,7 @@
--- `lanes::lane_step` meets its contract: the low bits of the product are those of its integer. Assumes nothing.
+-- `lanes::lane_step_of` meets its contract: the low bits of the product are those of its integer. Assumes nothing.
 use Rattle.lanes.proofs.Widths.{width_range}
 use Rattle.lanes.proofs.Wrapping.{lane_step_is}
-use Rattle.lanes.proofs.lane_step.Goals as goal
+use Rattle.lanes.proofs.lane_step_of.Goals as goal
 
 pub returns : goal.returns
 returns g c = (
