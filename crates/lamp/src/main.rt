@@ -2,6 +2,7 @@
 #![tactic(auto)]
 
 ghost use Rattle.std.specs.Prelude.{◌≡◌, ◌≤◌, ◌<◌, [], length};
+ghost use Rattle.std.specs.Io.KnownBytes.{Consumes};
 ghost use Rattle.runlist.specs.Plan.{most_words};
 ghost use Rattle.demands.specs.Lists.{longest};
 ghost use Rattle.lamp.specs.Lamp.{lines_of, register_bytes, printed, WordsAgain};
@@ -103,6 +104,22 @@ fn input_room() -> [u8; INPUT]
     [0; INPUT]
 }
 
+// Reads until the room is full, the input ends or a read fails, and hands out what it read: just the bytes that the input lost, where it says which.
+// Kept: a `while`, since only `read` says how far a turn comes.
+fn read_full<'a, R: io::Read>(from: &mut R, room: &'a mut [u8]) -> &'a [u8]
+    ensures fits { length result.now ≤ length room.old }
+    ensures bytes { Consumes (R.remaining from.old) (R.remaining from.new) result.now }
+{
+    let mut done = 0;
+    while done < room.len() {
+        match from.read(&mut room[done..]) {
+            Ok(0) | Err(_) => break,
+            Ok(got) => done += got,
+        }
+    }
+    &room[..done]
+}
+
 fn drain_some(from: &mut impl io::Read) -> bool {
     let mut buffer = [0u8; 4096];
     from.read(&mut buffer).unwrap_or(0) > 0
@@ -121,7 +138,7 @@ fn drain_input(from: &mut impl io::Read) {
 fn main(rt: HostRuntime) -> io::Result<()> {
     let mut stdin = rt.stdin();
     let mut room = input_room();
-    let list = input::read_full(&mut stdin, &mut room);
+    let list = read_full(&mut stdin, &mut room);
     if list.len() == INPUT {
         drain_input(&mut stdin);
     }

@@ -2,7 +2,8 @@
 // LLVM's answers are on standard input, made by tests/llvm/make_vectors.py, whose header has the line's columns.
 #![tactic(auto)]
 
-ghost use Rattle.std.specs.Prelude.{◌<◌};
+ghost use Rattle.std.specs.Prelude.{◌≤◌, ◌<◌, length};
+ghost use Rattle.std.specs.Io.KnownBytes.{Consumes};
 
 use settings::{Features, Modes, Refusal, Settings};
 use std::{array, io};
@@ -338,6 +339,23 @@ fn check_list(rt: &impl Print, list: &[u8]) -> io::Result<()> {
     println!(rt; "{words} words: {described} described, {refused} refused, {wrong} wrong")
 }
 
+// Reads until the room is full, the input ends or a read fails, and hands out what it read: just the bytes that the input lost, where it says which.
+// Kept: `lamp` has this function, private to it; public, it would be a promise that fixes no answer: a read may fail or stop short at any byte.
+// Kept: a `while`, since only `read` says how far a turn comes.
+fn read_full<'a, R: io::Read>(from: &mut R, room: &'a mut [u8]) -> &'a [u8]
+    ensures fits { length result.now ≤ length room.old }
+    ensures bytes { Consumes (R.remaining from.old) (R.remaining from.new) result.now }
+{
+    let mut done = 0;
+    while done < room.len() {
+        match from.read(&mut room[done..]) {
+            Ok(0) | Err(_) => break,
+            Ok(got) => done += got,
+        }
+    }
+    &room[..done]
+}
+
 // Larger than the file. A longer file would be cut short, and the count of words would show it.
 const INPUT: usize = 524288;
 
@@ -348,5 +366,5 @@ fn input_room() -> [u8; INPUT] {
 
 fn main(rt: HostRuntime) -> io::Result<()> {
     let mut room = input_room();
-    check_list(&rt, input::read_full(&mut rt.stdin(), &mut room))
+    check_list(&rt, read_full(&mut rt.stdin(), &mut room))
 }
