@@ -9,7 +9,7 @@ use Rattle.laws.proofs.Tests.{by_lt}
 use Rattle.lanes.specs.Lane.{s_int, int_of, low, product, accumulate, lane_step, add_sub, clamp, signed_sat, sat_step}
 use Rattle.lanes.specs.Signed.{signed_value, signs, limit}
 use Rattle.lanes.specs.Widths.{raise}
-use Rattle.lanes.proofs.Integers.{minus_lt, minus_ge, low_lt, low-pos, low_sub_is, low_sub}
+use Rattle.lanes.proofs.Integers.{minus_lt, minus_ge, low_lt, low-pos, low_sub}
 use Rattle.lanes.proofs.Widths.{two-halves}
 
 -- ---- an integer has a sign and a magnitude
@@ -107,14 +107,14 @@ raised_is w false x hw k = by_lt x (2 ^ (w - 1))
 -- ---- the product of two differences
 
 -- u less v is m, or minus m
-abbrev Less : Bool → ℕ → ℕ → ℕ → Type 0
+abbrev pub Less : Bool → ℕ → ℕ → ℕ → Type 0
 Less false u v m = u ≡ v + m
 Less true u v m = v ≡ u + m
 
-by_less : {P : Type 0} (u v : ℕ) → ((s : Bool) (m : ℕ) → Less s u v m → P) → P
+pub by_less : {P : Type 0} (u v : ℕ) → ((s : Bool) (m : ℕ) → Less s u v m → P) → P
 by_less u v k = by_lt u v (λ l. k true (v - u) (omega arith)) (λ l. k false (u - v) (omega arith))
 
-less_is : (s : Bool) (u v m : ℕ) → Less s u v m → pos u -ℤ pos v ≡ signed_value s m
+pub less_is : (s : Bool) (u v m : ℕ) → Less s u v m → pos u -ℤ pos v ≡ signed_value s m
 unfolding signed_value
 less_is false u v m e =
     let l : v ≤ u = omega arith in
@@ -159,15 +159,12 @@ product_is lane n unsigned x y h a b s r hl hx hy eh ea eb es k e =
     sym (low_sub n (a * b + h * h) (h * (a + b)) r k (e ∙ es))
     ∙ ap (low n) (sym (raised_times a b h) ∙ ap₂ (λ (u v : ℤ). u *ℤ v) (factor lane unsigned x h a hl hx eh ea) (factor lane unsigned y h b hl hy eh eb))
 
--- the low bits of the product of two lanes' integers meet that sum and that difference
-pub raised_back : (lane n : ℕ) (unsigned : Bool) (x y h a b r : ℕ)
+-- the product of two lanes' integers, by the raised ones
+pub raised_product : (lane : ℕ) (unsigned : Bool) (x y h a b : ℕ)
     → zero < lane → x < 2 ^ lane → y < 2 ^ lane → h ≡ raise lane unsigned → a ≡ (x + h) % 2 ^ lane → b ≡ (y + h) % 2 ^ lane
-    → r ≡ low n (int_of lane unsigned x *ℤ int_of lane unsigned y)
-    → (r + h * (a + b)) % 2 ^ n ≡ (a * b + h * h) % 2 ^ n
-raised_back lane n unsigned x y h a b r hl hx hy eh ea eb er =
-    let ez : int_of lane unsigned x *ℤ int_of lane unsigned y ≡ pos (a * b + h * h) -ℤ pos (h * (a + b)) =
-    ap₂ (λ (u v : ℤ). u *ℤ v) (sym (factor lane unsigned x h a hl hx eh ea)) (sym (factor lane unsigned y h b hl hy eh eb)) ∙ raised_times a b h in
-    ap (λ (m : ℕ). (m + h * (a + b)) % 2 ^ n) (er ∙ ap (low n) ez) ∙ low_sub_is n (a * b + h * h) (h * (a + b))
+    → int_of lane unsigned x *ℤ int_of lane unsigned y ≡ pos (a * b + h * h) -ℤ pos (h * (a + b))
+raised_product lane unsigned x y h a b hl hx hy eh ea eb =
+    ap₂ (λ (u v : ℤ). u *ℤ v) (sym (factor lane unsigned x h a hl hx eh ea)) (sym (factor lane unsigned y h b hl hy eh eb)) ∙ raised_times a b h
 
 -- the signed lane that a is raised from: its integer is m, or minus m
 lowered : {P : Type 0} (n : ℕ) (s : Bool) (m a : ℕ) → Less s a (2 ^ n) m → a < 2 ^ suc n

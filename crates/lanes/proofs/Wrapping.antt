@@ -1,11 +1,11 @@
 -- A wrapping step, for any widths. Assumes nothing.
-use Rattle.std.proofs.Common.{◌≡◌, ℕ, zero, suc, ◌+◌, ◌-◌, ◌*◌, ◌%◌, ◌^◌, ◌<◌, ◌≤◌, Bool, true, false, ℤ, ◌*ℤ◌, refl, sym, ap, ap₂, ◌∙◌, mod-lt, mod-eq_of_lt, mul-le-mul_right, add-zero, zero-mul, lt_of_lt_of_le, lt_of_le_of_lt, arith, pow_pos, pow_mono}
+use Rattle.std.proofs.Common.{◌≡◌, ℕ, zero, suc, ◌+◌, ◌-◌, ◌*◌, ◌%◌, ◌^◌, ◌<◌, ◌≤◌, Bool, true, false, ℤ, pos, ◌-ℤ◌, ◌*ℤ◌, refl, sym, ap, ap₂, subst, ◌∙◌, mod-lt, mod-eq_of_lt, mul-le-mul_right, add-zero, zero-mul, lt_of_lt_of_le, lt_of_le_of_lt, arith, pow_pos, pow_mono}
 use native.Mathlib.Nat.{mod-add-mod, add-mul-mod_self_right}
 use Rattle.lanes.specs.Lane.{s_int, int_of, low, product, accumulate, lane_step}
 use Rattle.lanes.proofs.Integers.{low-low}
+use Rattle.lanes.specs.Signed.{signed_value}
 use Rattle.lanes.specs.Widths.{raise}
-use Rattle.lanes.proofs.AnyWidth.{by_sign, accumulate_signed, product_is, raised_back, some_lane, added, subtracted, lane_is}
-use Rattle.lanes.proofs.Saturation.{low_cast}
+use Rattle.lanes.proofs.AnyWidth.{by_sign, accumulate_signed, Less, by_less, less_is, product_is, raised_product, some_lane, added, subtracted, lane_is}
 use Rattle.std.specs.Int.{w64, cast_unsigned}
 use Rattle.std.specs.Int.RustNames.{FitsSigned}
 
@@ -35,27 +35,40 @@ unsigned_is lane x y h =
     same : (k m : ℕ) → m < 2 ^ k → m ≡ (m + 0) % 2 ^ k
     same k m l = rw add-zero (sym (mod-eq_of_lt l))
 
+-- a 64-bit number whose signed value is u - v, with v added to it, is u, modulo 2 to 64
+back : (s : Bool) (m u v r : ℕ) → Less s u v m → FitsSigned w64 (signed_value s m) → r ≡ cast_unsigned w64 (signed_value s m) → (r + v) % 2 ^ 64 ≡ u % 2 ^ 64
+unfolding signed_value
+back false m u v r l f e = ap (λ (n : ℕ). n % 2 ^ 64) (omega (arith, e, l))
+back true zero u v r l f e = ap (λ (n : ℕ). n % 2 ^ 64) (omega (arith, e, l))
+back true (suc m) u v r l f e =
+    let over : r + v ≡ u + 1 * 2 ^ 64 = omega (arith, e, l, f.sfits) in
+    ap (λ (n : ℕ). n % 2 ^ 64) over ∙ add-mul-mod_self_right u 1 (2 ^ 64)
+
+signed_back : (u v r : ℕ) (z : ℤ) → z ≡ pos u -ℤ pos v → FitsSigned w64 z → r ≡ cast_unsigned w64 z → (r + v) % 2 ^ 64 ≡ u % 2 ^ 64
+signed_back u v r z ez f e =
+    by_less u v (λ s m l.
+    let same : z ≡ signed_value s m = ez ∙ less_is s u v m l in
+    back s m u v r l (subst (FitsSigned w64) same f) (e ∙ ap (cast_unsigned w64) same))
+
 -- of signed ones, which are raised by half their range: of as many bits as hold the two integers
 pub signed_is : (lane x y r : ℕ) (z : ℤ) → z ≡ s_int lane x *ℤ s_int lane y → FitsSigned w64 z → r < 2 ^ 64 → r ≡ cast_unsigned w64 z → r ≡ product lane 64 false x y
 unfolding product int_of
 signed_is lane x y r z ez f h e =
-    let er : r ≡ low 64 (s_int lane x *ℤ s_int lane y) =
-    sym (mod-eq_of_lt h) ∙ ap (λ (n : ℕ). n % 2 ^ 64) e ∙ low_cast 64 z (omega arith) f ∙ ap (low 64) ez in
     by_sign (s_int lane x) (λ s p ex.
     by_sign (s_int lane y) (λ t q ey.
     some_lane (p + q) s p (lt_of_le_of_lt (omega arith) (few (p + q))) (λ u lu eu.
     some_lane (p + q) t q (lt_of_le_of_lt (omega arith) (few (p + q))) (λ v lv ev.
     let eq : int_of (suc (p + q)) false u *ℤ int_of (suc (p + q)) false v ≡ s_int lane x *ℤ s_int lane y =
     ap₂ (λ (i j : ℤ). i *ℤ j) (eu ∙ ex) (ev ∙ ey) in
-    raised (suc (p + q)) u v r (omega arith) lu lv h (er ∙ ap (low 64) (sym eq)) ∙ ap (low 64) eq))))
+    raised (suc (p + q)) u v (omega arith) lu lv (ez ∙ sym eq) ∙ ap (low 64) eq))))
   where
-    raised : (n u v r : ℕ) → zero < n → u < 2 ^ n → v < 2 ^ n → r < 2 ^ 64
-        → r ≡ low 64 (int_of n false u *ℤ int_of n false v) → r ≡ product n 64 false u v
-    raised n u v r hn lu lv h er =
-        let a : ℕ = (u + raise n false) % 2 ^ n in
-        let b : ℕ = (v + raise n false) % 2 ^ n in
-        product_is n 64 false u v (raise n false) a b ((a * b + raise n false * raise n false) % 2 ^ 64) r hn lu lv refl refl refl refl h
-        (raised_back n 64 false u v (raise n false) a b r hn lu lv refl refl refl er)
+    raised : (n u v : ℕ) → zero < n → u < 2 ^ n → v < 2 ^ n → z ≡ int_of n false u *ℤ int_of n false v → r ≡ product n 64 false u v
+    raised n u v hn lu lv en =
+        let k : ℕ = raise n false in
+        let a : ℕ = (u + k) % 2 ^ n in
+        let b : ℕ = (v + k) % 2 ^ n in
+        product_is n 64 false u v k a b ((a * b + k * k) % 2 ^ 64) r hn lu lv refl refl refl refl h
+        (signed_back (a * b + k * k) (k * (a + b)) r z (en ∙ raised_product n false u v k a b hn lu lv refl refl refl) f e)
 
 -- and modulo 2 to a smaller number of bits
 pub product_low : (lane wide n : ℕ) (unsigned : Bool) (x y p : ℕ) → wide ≤ n → p ≡ product lane n unsigned x y
