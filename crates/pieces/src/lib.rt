@@ -1,9 +1,9 @@
-// Pieces of text: a number by its digits, as a text of its own or behind one that is lent.
+// Pieces of text: a number by its digits, as a text of its own, behind one that is lent, or at a place of a room that is lent.
 #![tactic(auto)]
 
-ghost use Rattle.std.specs.Prelude.{◌≡◌, ◌+◌, ◌≤◌, ◌<◌, ◌++◌};
+ghost use Rattle.std.specs.Prelude.{◌≡◌, ◌+◌, ◌≤◌, ◌<◌, ◌++◌, length};
 ghost use Rattle.arrayvec.specs.ArrayString.{array_string_len};
-ghost use Rattle.pieces.specs.Pieces.{glyph_of, digits, decimal, hex8};
+ghost use Rattle.pieces.specs.Pieces.{glyph_of, digits, decimal, hex8, Wrote};
 
 use arrayvec::ArrayString;
 use itoa::Buffer;
@@ -17,18 +17,37 @@ fn glyph(digit: u64) -> u8
     first + digit as u8
 }
 
-// The last digits of a number in a base, from the right to the left.
+// Fills a room with the last digits of a number in a base, from the right to the left.
+fn fill_digits(room: &mut [u8], n: u64, base: u64)
+    requires { (1 < base) × (base ≤ 16) }
+    ensures { room.new ≡ digits base (length room.old) n }
+{
+    let mut rest = n;
+    for place in (0..room.len()).rev() {
+        room[place] = glyph(rest % base);
+        rest /= base;
+    }
+}
+
+// The last digits of a number in a base, as an array of their own.
 pub fn last_digits<const N: usize>(n: u64, base: u64) -> [u8; N]
     requires { (1 < base) × (base ≤ 16) }
     ensures { result ≡ digits base N n }
 {
     let mut digits = [0; N];
-    let mut rest = n;
-    for place in (0..N).rev() {
-        digits[place] = glyph(rest % base);
-        rest /= base;
-    }
+    fill_digits(&mut digits, n, base);
     digits
+}
+
+// The last digits of a number in a base, in room that is lent: for a count that is known only as it runs. Answers the place after them.
+pub fn put_digits(out: &mut [u8], at: usize, n: u64, base: u64, count: usize) -> usize
+    requires { (1 < base) × (base ≤ 16) × (at + count ≤ length out.old) }
+    ensures wrote { Wrote (digits base count n) at out.old out.new result }
+    ensures upper_bound { result ≤ at + count }
+{
+    let end = at + count;
+    fill_digits(&mut out[at..end], n, base);
+    end
 }
 
 // Adds a number in decimal digits, of which one of 64 bits has at most 20. It goes onto the text at once, since one of its own is made empty, handed
