@@ -1,4 +1,5 @@
--- A row is what stands between its start and the next one's, in one string of all rows. The code has a text a row (`row_at`). Assumes nothing.
+-- A row is what stands between its start and the next one's, in one string of all rows. The code has a text a row, and `row_at` says so of it. Assumes
+-- nothing.
 use Prim.Native.Nat.{ℕ, zero, suc, ◌+◌, ◌-◌, ◌<◌, ◌≤◌}
 use Prim.Native.String.{String}
 use native.Mathlib.Numerals.{add-one}

@@ -2,14 +2,14 @@
 // it for the only fields that a text can have: whether the text is theirs is seen by writing it again.
 #![tactic(auto)]
 
-ghost use Rattle.std.specs.Prelude.{◌≡◌, true, false, cond, ◌+◌, ◌≤◌, ◌<◌, length, get_or};
+ghost use Rattle.std.specs.Prelude.{◌≡◌, true, false, cond, ◌+◌, ◌-◌, ◌≤◌, ◌<◌, length, get_or, take, drop};
 ghost use Rattle.syntax.specs.Syntax.{value_in, fill};
 ghost use Rattle.encoding.specs.Encode.{TheWord};
 ghost use Rattle.spelling.specs.Rows.{syntax_at};
 ghost use Rattle.spelling.specs.Spell.{last_offset, letter_values, row_for, spell, longest_text};
 ghost use Rattle.spelling.specs.Print.{printed_says, put_into, PrintPromise};
 ghost use Rattle.spelling.specs.Language.{Spells, ReadPromise};
-ghost use Rattle.spelling.specs.Candidate.{family_at, row_lanes, row_parts, fields_by, candidate_at, group_of};
+ghost use Rattle.spelling.specs.Candidate.{all_rows, start_at, family_at, row_lanes, row_parts, fields_by, candidate_at, group_of};
 ghost use Rattle.spelling.specs.Tried.{Figures, SpellsBy};
 
 use arrayvec::ArrayVec;
@@ -148,6 +148,7 @@ static ROWS: [Row; 18] = [
     },
 ];
 
+// A row of the table. In one string of all rows its text stands from the row's start to the next one's (`placed`).
 // Kept: a row goes by its number, since the definitions of the rows do (`syntax_at`, `fields_by`, `SpellsBy`).
 #[tactic(auto, unfolding(crate::specs::Rows::syntax_at))]
 fn row_at(k: usize) -> Row
@@ -156,6 +157,7 @@ fn row_at(k: usize) -> Row
     ensures lane { result.lane ≡ get_or row_lanes k 0 }
     ensures part { (result.part ≡ get_or row_parts k 0) × (result.part < 2) }
     ensures text { result.text.now ≡ syntax_at k }
+    ensures place { take (start_at (k + 1) - start_at k) (drop (start_at k) all_rows) ≡ result.text.now }
 {
     ROWS[k]
 }
