@@ -1,5 +1,5 @@
 -- A row's text is what stands from the row's start to the next one's, in one string of all rows.
-use Rattle.std.proofs.Common.{◌≡◌, ◌∙◌, sym, refl, rules}
+use Rattle.std.proofs.Common.{◌∙◌, sym, refl, rules}
 use Rattle.spelling.specs.Rows.{syntax_at}
 use Rattle.spelling.proofs.Placed.{placed}
 use Rattle.spelling.proofs.row_at.Goals as goal
