@@ -36,11 +36,12 @@ unsigned_is lane x y h =
     same k m l = rw add-zero (sym (mod-eq_of_lt l))
 
 -- a 64-bit number whose signed value is u - v, with v added to it, is u, modulo 2 to 64
-back : (s : Bool) (m u v r : ℕ) → Less s u v m → FitsSigned w64 (signed_value s m) → r ≡ cast_unsigned w64 (signed_value s m) → (r + v) % 2 ^ 64 ≡ u % 2 ^ 64
+back_by_sign : (s : Bool) (m u v r : ℕ) → Less s u v m → FitsSigned w64 (signed_value s m) → r ≡ cast_unsigned w64 (signed_value s m)
+    → (r + v) % 2 ^ 64 ≡ u % 2 ^ 64
 unfolding signed_value
-back false m u v r l f e = ap (λ (n : ℕ). n % 2 ^ 64) (omega (arith, e, l))
-back true zero u v r l f e = ap (λ (n : ℕ). n % 2 ^ 64) (omega (arith, e, l))
-back true (suc m) u v r l f e =
+back_by_sign false m u v r l f e = ap (λ (n : ℕ). n % 2 ^ 64) (omega (arith, e, l))
+back_by_sign true zero u v r l f e = ap (λ (n : ℕ). n % 2 ^ 64) (omega (arith, e, l))
+back_by_sign true (suc m) u v r l f e =
     let over : r + v ≡ u + 1 * 2 ^ 64 = omega (arith, e, l, f.sfits) in
     ap (λ (n : ℕ). n % 2 ^ 64) over ∙ add-mul-mod_self_right u 1 (2 ^ 64)
 
@@ -48,7 +49,7 @@ signed_back : (u v r : ℕ) (z : ℤ) → z ≡ pos u -ℤ pos v → FitsSigned 
 signed_back u v r z ez f e =
     by_less u v (λ s m l.
     let same : z ≡ signed_value s m = ez ∙ less_is s u v m l in
-    back s m u v r l (subst (FitsSigned w64) same f) (e ∙ ap (cast_unsigned w64) same))
+    back_by_sign s m u v r l (subst (FitsSigned w64) same f) (e ∙ ap (cast_unsigned w64) same))
 
 -- of signed ones, which are raised by half their range: of as many bits as hold the two integers
 pub signed_is : (lane x y r : ℕ) (z : ℤ) → z ≡ s_int lane x *ℤ s_int lane y → FitsSigned w64 z → r < 2 ^ 64 → r ≡ cast_unsigned w64 z → r ≡ product lane 64 false x y
