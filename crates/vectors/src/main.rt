@@ -340,7 +340,8 @@ fn check_list(rt: &impl Print, list: &[u8]) -> io::Result<()> {
 }
 
 // Reads until the room is full, the input ends or a read fails, and hands out what it read: just the bytes that the input lost, where it says which.
-// Kept: `lamp` has this function, private to it; public, it would be a promise that fixes no answer: a read may fail or stop short at any byte.
+// Kept: `lamp` has this function, private to it too, and `input` has it for other crates. The programs keep their own, since public it is a promise that
+// fixes no answer: a read may fail or stop short at any byte.
 // Kept: a `while`, since only `read` says how far a turn comes.
 fn read_full<'a, R: io::Read>(from: &mut R, room: &'a mut [u8]) -> &'a [u8]
     ensures fits { length result.now ≤ length room.old }
